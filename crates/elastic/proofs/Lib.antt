@@ -1,0 +1,4 @@
+pub mod Inserts
+pub mod Rows
+pub mod Minutes
+pub mod Soundness

@@ -1,0 +1,6 @@
+use mathlib.Core.Path.{refl}
+use Rattle.elastic.proofs.Inserts.{inserted-by-turn}
+use Rattle.elastic.proofs.row.insert.Needs as need
+
+pub returns : need.returns
+returns g c = inserted-by-turn _ _ _ _ (c .pre .0) (c .pre .1) _ _ refl (c .rotate-right .ensures .after)

@@ -1,0 +1,5 @@
+// The elastic profile of a list of lots, and how much of its work overflows the windows.
+mod row;
+
+pub use row::Keyed;
+pub use row::Place;

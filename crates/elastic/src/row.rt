@@ -1,0 +1,113 @@
+// A row of elements in lent cells, kept in the strict order of their keys.
+ghost use mathlib.Core.List.{_++_};
+ghost use mathlib.Core.Path.{_≡_};
+ghost use Prim.Native.Nat.{min, _+_, _<_, _≤_};
+ghost use lib.ListN.{length, take, drop};
+ghost use denote.Ref.{name};
+ghost use Rattle.std.specs.Holes.{inserted};
+ghost use Rattle.std.specs.Keys.{Total};
+ghost use Rattle.std.specs.Results.{Cases};
+ghost use Rattle.elastic.specs.Rows.{Ascending, Sought, Put};
+use std::cmp::Ordering;
+
+// Where an element came to stand.
+#[derive(Clone, Copy, PartialEq, Eq, Debug)]
+pub enum Place {
+    // It was put at this place.
+    Placed(usize),
+    // Its key stood at this place already.
+    Present(usize),
+    // Its key is not there, and no cell is free.
+    Full,
+}
+
+// An element that a row keeps by its key.
+pub trait Keyed {
+    type Key: Ord + Drop;
+
+    ghost keyed: { Self → Self·Key };
+
+    law order: { Total (Key·Ord .orders) };
+
+    fn key(&self) -> Self::Key
+        ensures { λ r. ⌜ r ≡ keyed (now (self .entry)) ⌝ };
+}
+
+// The first `len` of some lent cells, or all of them where there are fewer.
+#[derive(Drop)]
+pub struct Row<'a, E> {
+    cells: &'a mut [E],
+    len: usize,
+}
+
+// The place of the key in the row: where it stands, or else where it would.
+fn place_of<E: Keyed>(row: &[E], key: E::Key) -> Result<usize, usize>
+    ensures bound { λ r. ⌜ Cases r (λ i. i < length (now (row .entry))) (λ i. i ≤ length (now (row .entry))) ⌝ }
+    ensures found { λ r. ⌜ ((o : Total (Key·Ord .orders)) → Ascending o keyed (now (row .entry)) → Sought o keyed key (now (row .entry)) r) ⌝ }
+{
+    let mut low = 0;
+    let mut high = row.len();
+    while low < high {
+        let middle = low + (high - low) / 2;
+        match row[middle].key().cmp(&key) {
+            Ordering::Less => low = middle + 1,
+            Ordering::Equal => return Ok(middle),
+            Ordering::Greater => high = middle,
+        }
+    }
+    Err(low)
+}
+
+// Puts the element at the place i of the first `len` cells, and moves those from i on by one.
+fn insert<E: Copy>(cells: &mut [E], len: usize, i: usize, element: E)
+    requires { ⌜ i ≤ len ⌝ ∗ ⌜ len < length (now cells) ⌝ }
+    ensures { λ _. ⌜ now (cells .exit) ≡ inserted (take len (now (cells .entry))) i element ++ drop (len + 1) (now (cells .entry)) ⌝ }
+{
+    cells[len] = element;
+    cells[i..len + 1].rotate_right(1);
+}
+
+impl<'a, E: Keyed + Copy> Row<'a, E> {
+    // The row of the first `len` of these cells.
+    pub fn over(cells: &'a mut [E], len: usize) -> Row<'a, E>
+        ensures { λ r. ⌜ (r .len ≡ len) × (name (r .cells) ≡ name (cells .entry)) × (now (r .cells) ≡ now (cells .entry)) ⌝ }
+    {
+        Row { cells, len }
+    }
+
+    // How many elements the row has.
+    pub fn len(&self) -> usize
+        ensures { λ r. ⌜ r ≡ min (now (self .entry) .len) (length (now (now (self .entry) .cells))) ⌝ }
+    {
+        self.len.min(self.cells.len())
+    }
+
+    // The place of the key in the row: where it stands, or else where it would.
+    fn seek(&self, key: E::Key) -> Result<usize, usize>
+        ensures bound { λ r. ⌜ Cases r (λ i. i < length (take (now (self .entry) .len) (now (now (self .entry) .cells)))) (λ i. i ≤ length (take (now (self .entry) .len) (now (now (self .entry) .cells)))) ⌝ }
+        ensures found { λ r. ⌜ ((o : Total (Key·Ord .orders)) → Ascending o keyed (take (now (self .entry) .len) (now (now (self .entry) .cells))) → Sought o keyed key (take (now (self .entry) .len) (now (now (self .entry) .cells))) r) ⌝ }
+    {
+        let len = self.len();
+        place_of(&self.cells[0..len], key)
+    }
+
+    // Puts an element at the place of its key, unless the key is there or no cell is free.
+    pub fn put(&mut self, element: E) -> Place
+        ensures lent { λ r. ⌜ name (now (self .exit) .cells) ≡ name (now (self .entry) .cells) ⌝ }
+        ensures put { λ r. ⌜ ((o : Total (Key·Ord .orders)) → Ascending o keyed (take (now (self .entry) .len) (now (now (self .entry) .cells))) → Put o keyed element (take (now (self .entry) .len) (now (now (self .entry) .cells))) (now (now (self .entry) .cells)) (take (now (self .exit) .len) (now (now (self .exit) .cells))) (now (now (self .exit) .cells)) r) ⌝ }
+        ensures ascends { λ r. ⌜ ((o : Total (Key·Ord .orders)) → Ascending o keyed (take (now (self .entry) .len) (now (now (self .entry) .cells))) → Ascending o keyed (take (now (self .exit) .len) (now (now (self .exit) .cells)))) ⌝ }
+    {
+        let len = self.len();
+        match self.seek(element.key()) {
+            Ok(i) => Place::Present(i),
+            Err(i) => {
+                if len == self.cells.len() {
+                    return Place::Full;
+                }
+                insert(self.cells, len, i, element);
+                self.len = len + 1;
+                Place::Placed(i)
+            }
+        }
+    }
+}
