@@ -16,6 +16,7 @@ use Rattle.std.proofs.shelf.Edits.{length-inserted, getD-inserted-below, getD-i
 use Rattle.std.proofs.shelf.Lists.{getD-default, length-take, take-all, take-at}
 use Rattle.std.proofs.shelf.Tests.{cases-lt, cases-order}
 use Rattle.elastic.specs.Rows.{Ascending, Below, Above, Stands, Sought, Put}
+use Rattle.elastic.specs.declared.row.Place.{Place}
 use Rattle.elastic.specs.declared.row.Place.the-variants.{Placed, Present, Full}
 
 -- some element of a list that has one
@@ -153,3 +154,23 @@ module _ {E K : Type 0} {R : K → K → Ordering → Type 0} (o : Total R) (key
 
         pub placed-ascends : Ascending o key row → Ascending o key (take (len + 1) cells′)
         placed-ascends up = subst (Ascending o key) (sym row-after) (ascending-inserted row e i up (place .0) (place .1) (place .2))
+
+  -- what `put` did to a row over cells that were lent holds of the cells themselves
+  module _ (e : E) (cells lent cells′ : List E) (len n n′ len′ : ℕ) (as-long : n ≡ len) (as-lent : lent ≡ cells) (size : len′ ≡ min n′ (length cells′)) where
+    same-before : take n lent ≡ take len cells
+    same-before = cc
+
+    same-after : take n′ cells′ ≡ take len′ cells′
+    same-after = sym (take-min cells′ n′ len′ size)
+
+    pub put-given-back : (r : Place) → Put o key e (take n lent) lent (take n′ cells′) cells′ r → Put o key e (take len cells) cells (take len′ cells′) cells′ r
+    put-given-back r put =
+        subst (λ row′. Put o key e (take len cells) cells row′ cells′ r) same-after
+        (subst (λ row. Put o key e row cells (take n′ cells′) cells′ r) same-before
+        (subst (λ before. Put o key e (take n lent) before (take n′ cells′) cells′ r) as-lent put))
+
+    pub ascending-lent : Ascending o key (take len cells) → Ascending o key (take n lent)
+    ascending-lent = subst (Ascending o key) (sym same-before)
+
+    pub ascending-given-back : Ascending o key (take n′ cells′) → Ascending o key (take len′ cells′)
+    ascending-given-back = subst (Ascending o key) same-after

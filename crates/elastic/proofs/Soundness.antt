@@ -8,7 +8,7 @@ use native.Mathlib.Omega.{arith}
 use Rattle.std.proofs.shelf.Ways.{tells}
 use Rattle.lots.specs.Schedules.{spans, load, Placed, Schedule}
 use Rattle.lots.specs.declared.Lot.{Lot}
-use Rattle.elastic.specs.Profile.{earliest, latest, open-trays, creq, overflow}
+use Rattle.elastic.specs.Profile.{earliest, latest, available, creq, overflow}
 use Rattle.elastic.proofs.Minutes.{rest, overflow-rest}
 
 -- how many of the p minutes from a are before t
@@ -65,7 +65,7 @@ module _ (t : ℕ) where
       let e : done s (x .p) t ≡ done (x .est) (x .p) t = omega arith in
       ap₂ (λ n m. x .c * n + m) e (work-all xs ss (h .1) (omega arith))
 
-  load-open : (Ω : List Lot) (ss : List ℕ) → Placed Ω ss → load t Ω ss ≤ open-trays Ω t
+  load-open : (Ω : List Lot) (ss : List ℕ) → Placed Ω ss → load t Ω ss ≤ available Ω t
   load-open [] [] h = omega arith
   load-open [] (s ∷ ss) h = absurd h
   load-open (x ∷ xs) [] h = absurd h

@@ -19,13 +19,13 @@ latest [] = 0
 latest (x ∷ xs) = max (x .lct) (latest xs)
 
 -- the trays of the lots whose window holds the minute t: est ≤ t < lct
-abbrev pub open-trays : List Lot → ℕ → ℕ
-open-trays [] t = 0
-open-trays (x ∷ xs) t = cond (spans (x .est) (x .lct) t) (x .c) 0 + open-trays xs t
+abbrev pub available : List Lot → ℕ → ℕ
+available [] t = 0
+available (x ∷ xs) t = cond (spans (x .est) (x .lct) t) (x .c) 0 + available xs t
 
 -- the trays that can be in use at t
 abbrev pub cmax : ℕ → List Lot → ℕ → ℕ
-cmax C Ω t = min (open-trays Ω t) C
+cmax C Ω t = min (available Ω t) C
 
 -- the trays in use at t if each lot starts at its est: est ≤ t < ect
 abbrev pub creq : List Lot → ℕ → ℕ

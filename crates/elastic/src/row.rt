@@ -94,6 +94,7 @@ impl<'a, E: Keyed + Copy> Row<'a, E> {
     // Puts an element at the place of its key, unless the key is there or no cell is free.
     pub fn put(&mut self, element: E) -> Place
         ensures lent { λ r. ⌜ name (now (self .exit) .cells) ≡ name (now (self .entry) .cells) ⌝ }
+        ensures cells { λ r. ⌜ length (now (now (self .exit) .cells)) ≡ length (now (now (self .entry) .cells)) ⌝ }
         ensures put { λ r. ⌜ ((o : Total (Key·Ord .orders)) → Ascending o keyed (take (now (self .entry) .len) (now (now (self .entry) .cells))) → Put o keyed element (take (now (self .entry) .len) (now (now (self .entry) .cells))) (now (now (self .entry) .cells)) (take (now (self .exit) .len) (now (now (self .exit) .cells))) (now (now (self .exit) .cells)) r) ⌝ }
         ensures ascends { λ r. ⌜ ((o : Total (Key·Ord .orders)) → Ascending o keyed (take (now (self .entry) .len) (now (now (self .entry) .cells))) → Ascending o keyed (take (now (self .exit) .len) (now (now (self .exit) .cells)))) ⌝ }
     {

@@ -1,0 +1,148 @@
+// The points of an elastic profile: the minutes at which it changes, and by how much.
+ghost use mathlib.Core.List.{List, [], _∷_, _++_};
+ghost use mathlib.Core.Path.{_≡_};
+ghost use Prim.Native.Nat.{_+_, _^_, _<_, _≤_};
+ghost use lib.IntN.{_+ℤ_};
+ghost use lib.ListN.{length, getD, set, take};
+ghost use Rattle.std.specs.shelf.Lists.{All};
+ghost use Rattle.lots.specs.Limits.{max-capacity, max-lots};
+ghost use Rattle.lots.specs.Tables.{Lawful-lot};
+ghost use Rattle.lots.specs.declared.Lot.{Lot};
+ghost use Rattle.elastic.specs.Points.{at-est, at-ect, at-lct, Rising, Small, Entered, Profiles, point-at, altered, max-points};
+ghost use Rattle.elastic.specs.Rows.{Put};
+ghost use Rattle.std.specs.Keys.{unsigned};
+use crate::row::Keyed;
+use crate::row::Place;
+use crate::row::Row;
+use lots::Lot;
+use lots::MAX_LOTS;
+
+// A profile has at most the est, the ect and the lct of each lot.
+const MAX_POINTS: usize = 3 * MAX_LOTS;
+
+// A minute, and by how much the available and the required trays change at it.
+#[derive(Clone, Copy)]
+pub struct Point {
+    minute: u16,
+    available: i32,
+    required: i32,
+}
+
+impl Point {
+    // From its est on, a lot's trays are available and required.
+    fn at_est(lot: &Lot) -> Point
+        ensures { λ r. ⌜ r ≡ at-est (now (lot .entry)) ⌝ }
+    {
+        let c = i32::from(lot.c);
+        Point {
+            minute: lot.est,
+            available: c,
+            required: c,
+        }
+    }
+
+    // From its ect on, they are required no more.
+    fn at_ect(lot: &Lot) -> Point
+        requires { ⌜ Lawful-lot max-capacity (now lot) ⌝ }
+        ensures { λ r. ⌜ r ≡ at-ect (now (lot .entry)) ⌝ }
+    {
+        Point {
+            minute: lot.est + lot.p,
+            available: 0,
+            required: -i32::from(lot.c),
+        }
+    }
+
+    // From its lct on, they are available no more.
+    fn at_lct(lot: &Lot) -> Point
+        ensures { λ r. ⌜ r ≡ at-lct (now (lot .entry)) ⌝ }
+    {
+        Point {
+            minute: lot.lct,
+            available: -i32::from(lot.c),
+            required: 0,
+        }
+    }
+
+    // Adds the two changes of another point to those of this one.
+    fn add(&mut self, change: Point)
+        requires { ⌜ Small (2 ^ 30) (now self) ⌝ ∗ ⌜ Small (2 ^ 29) change ⌝ }
+        ensures { λ _. ⌜ now (self .exit) ≡ altered (now (self .entry)) change ⌝ }
+    {
+        self.available += change.available;
+        self.required += change.required;
+    }
+}
+
+pub impl Keyed for Point as PointKeyed {
+    type Key = u16;
+
+    ghost keyed = { λ p. p .minute };
+
+    fn key(&self) -> u16 {
+        self.minute
+    }
+}
+
+// The first `len` points are in use, in the order of their minutes.
+#[derive(Clone, Copy)]
+pub struct Profile {
+    points: [Point; MAX_POINTS],
+    len: usize,
+}
+
+impl Profile {
+    // Adds to the two changes of the point at the place i.
+    fn alter(&mut self, i: usize, change: Point)
+        requires within { ⌜ i < max-points ⌝ }
+        requires small { ⌜ Small (2 ^ 30) (point-at (now self .points) i) ⌝ }
+        requires small_change { ⌜ Small (2 ^ 29) change ⌝ }
+        ensures { λ _. ⌜ (now (self .exit) .len ≡ now (self .entry) .len) × (now (self .exit) .points ≡ set (now (self .entry) .points) i (altered (point-at (now (self .entry) .points) i) change)) ⌝ }
+    {
+        let point = &mut self.points[i];
+        point.add(change);
+    }
+
+    // Puts a change as a point of its own, unless its minute has one.
+    fn put(&mut self, change: Point) -> Place
+        requires { ⌜ Rising (take (now self .len) (now self .points)) ⌝ }
+        ensures put { λ r. ⌜ Put unsigned (λ p. p .minute) change (take (now (self .entry) .len) (now (self .entry) .points)) (now (self .entry) .points) (take (now (self .exit) .len) (now (self .exit) .points)) (now (self .exit) .points) r ⌝ }
+        ensures within { λ _. ⌜ length (now (self .entry) .points) ≡ max-points ⌝ ∗ ⌜ now (self .exit) .len ≤ max-points ⌝ }
+        ensures rising { λ _. ⌜ Rising (take (now (self .exit) .len) (now (self .exit) .points)) ⌝ }
+    {
+        let len = self.len;
+        let mut row = Row::over(&mut self.points, len);
+        let place = row.put(change);
+        let grown = row.len();
+        self.len = grown;
+        place
+    }
+
+    // Enters a change: as a point of its own, or with the changes of the point that its minute has.
+    fn enter(&mut self, change: Point)
+        requires free { ⌜ length (take (now self .len) (now self .points)) < max-points ⌝ }
+        requires rising { ⌜ Rising (take (now self .len) (now self .points)) ⌝ }
+        requires small { ⌜ All (Small (2 ^ 30)) (take (now self .len) (now self .points)) ⌝ }
+        requires small_change { ⌜ Small (2 ^ 29) change ⌝ }
+        ensures within { λ _. ⌜ now (self .exit) .len ≤ max-points ⌝ }
+        ensures entered { λ _. ⌜ Entered (take (now (self .entry) .len) (now (self .entry) .points)) change (take (now (self .exit) .len) (now (self .exit) .points)) ⌝ }
+    {
+        match self.put(change) {
+            Place::Placed(_) => {}
+            Place::Present(i) => self.alter(i, change),
+            Place::Full => unreachable(),
+        }
+    }
+
+    // Adds a lot to the list whose profile this is.
+    fn add(&mut self, lot: &Lot)
+        requires lawful { ⌜ Lawful-lot max-capacity (now lot) ⌝ }
+        requires profile { ⌜ ((Ω : List Lot) × (length Ω < max-lots) × Profiles (take (now self .len) (now self .points)) Ω) ⌝ }
+        ensures within { λ _. ⌜ now (self .exit) .len ≤ max-points ⌝ }
+        ensures profile { λ _. ⌜ ((Ω : List Lot) → Profiles (take (now (self .entry) .len) (now (self .entry) .points)) Ω → Profiles (take (now (self .exit) .len) (now (self .exit) .points)) (Ω ++ now (lot .entry) ∷ [])) ⌝ }
+    {
+        self.enter(Point::at_est(lot));
+        self.enter(Point::at_ect(lot));
+        self.enter(Point::at_lct(lot));
+    }
+}
