@@ -5,3 +5,4 @@ pub mod Soundness
 pub mod Counts
 pub mod Points
 pub mod Profiles
+pub mod Walks

@@ -5,6 +5,7 @@ use mathlib.Core.List.{List, [], _∷_}
 use mathlib.Core.Path.{_≡_, refl, sym, ap, _∙_}
 use native.Mathlib.Nat.{add-suc}
 use native.Mathlib.Omega.{arith}
+use Rattle.std.specs.shelf.Lists.{All}
 use Rattle.std.proofs.shelf.Ways.{tells}
 use Rattle.lots.specs.Schedules.{spans}
 use Rattle.lots.specs.declared.Lot.{Lot}
@@ -33,7 +34,12 @@ pub rest-from : (C : ℕ) (Ω : List Lot) (k : ℕ) → rest C Ω (earliest Ω +
 rest-from C Ω zero = rest-early C Ω (earliest Ω + 0) (omega arith)
 rest-from C Ω (suc k) = ap (rest C Ω) (add-suc (earliest Ω) k) ∙ omega (arith, rest-from C Ω k)
 
-pub overflow-rest : (C : ℕ) (Ω : List Lot) → earliest Ω ≤ latest Ω → overflow C Ω ≡ rest C Ω (latest Ω)
+earliest-latest : (Ω : List Lot) → All (λ x. x .est ≤ x .lct) Ω → earliest Ω ≤ latest Ω
+earliest-latest [] h = omega arith
+earliest-latest (x ∷ []) h = omega (arith, h .0)
+earliest-latest (x ∷ (y ∷ ys)) h = omega (arith, h .0)
+
+pub overflow-rest : (C : ℕ) (Ω : List Lot) → All (λ x. x .est ≤ x .lct) Ω → overflow C Ω ≡ rest C Ω (latest Ω)
 overflow-rest C Ω h =
-    let e : earliest Ω + (latest Ω - earliest Ω) ≡ latest Ω = omega arith in
+    let e : earliest Ω + (latest Ω - earliest Ω) ≡ latest Ω = omega (arith, earliest-latest Ω h) in
     sym (rest-from C Ω (latest Ω - earliest Ω)) ∙ ap (rest C Ω) e

@@ -73,7 +73,7 @@ place-of (p ∷ ps) t h = elim (or-cases (eqb t (p .minute)) (has t (minutes-of 
   | inr k ↦ let r = place-of ps t k in (suc (r .0), omega (arith, r .1), r .2)
 ]
 
-has-at : (ps : List Point) (i t : ℕ) (d : Point) → i < length ps → getD ps i d .minute ≡ t → has t (minutes-of ps) ≡ true
+pub has-at : (ps : List Point) (i t : ℕ) (d : Point) → i < length ps → getD ps i d .minute ≡ t → has t (minutes-of ps) ≡ true
 has-at [] i t d h e = absurd (omega arith)
 has-at (p ∷ ps) zero t d h e = or-left (eqb t (p .minute)) (has t (minutes-of ps)) (eq-eqb t (p .minute) (sym e))
 has-at (p ∷ ps) (suc i) t d h e = or-right (eqb t (p .minute)) (has t (minutes-of ps)) (has-at ps i t d (omega arith) e)

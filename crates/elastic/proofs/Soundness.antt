@@ -5,10 +5,11 @@ use mathlib.Core.List.{List, [], _∷_}
 use mathlib.Core.Path.{_≡_, refl, ap, ap₂, _∙_}
 use native.Mathlib.Nat.{mul-add, mul-one, mul-zero, mul-le-mul-left}
 use native.Mathlib.Omega.{arith}
+use Rattle.std.specs.shelf.Lists.{All}
 use Rattle.std.proofs.shelf.Ways.{tells}
 use Rattle.lots.specs.Schedules.{spans, load, Placed, Schedule}
 use Rattle.lots.specs.declared.Lot.{Lot}
-use Rattle.elastic.specs.Profile.{earliest, latest, available, creq, overflow}
+use Rattle.elastic.specs.Profile.{latest, available, creq, overflow}
 use Rattle.elastic.proofs.Minutes.{rest, overflow-rest}
 
 -- how many of the p minutes from a are before t
@@ -87,17 +88,16 @@ rest-work C Ω ss h (suc t) =
       h .within t,
     )
 
-earliest-latest : (Ω : List Lot) (ss : List ℕ) → Placed Ω ss → earliest Ω ≤ latest Ω
-earliest-latest [] ss h = omega arith
-earliest-latest (x ∷ xs) [] h = absurd h
-earliest-latest (x ∷ []) (s ∷ ss) h = omega arith
-earliest-latest (x ∷ (y ∷ ys)) (s ∷ ss) h = omega arith
+placed-fits : (Ω : List Lot) (ss : List ℕ) → Placed Ω ss → All (λ x. x .est ≤ x .lct) Ω
+placed-fits [] ss h = tt
+placed-fits (x ∷ xs) [] h = absurd h
+placed-fits (x ∷ xs) (s ∷ ss) h = (omega arith, placed-fits xs ss (h .1))
 
 pub overflow-of-schedulable : (C : ℕ) (Ω : List Lot) (ss : List ℕ) → Schedule C Ω ss → overflow C Ω ≡ 0
 overflow-of-schedulable C Ω ss h =
     omega (
       arith,
-      overflow-rest C Ω (earliest-latest Ω ss (h .placed)),
+      overflow-rest C Ω (placed-fits Ω ss (h .placed)),
       rest-work C Ω ss h (latest Ω),
       work-all (latest Ω) Ω ss (h .placed) (omega arith),
     )

@@ -1,14 +1,16 @@
 // The points of an elastic profile: the minutes at which it changes, and by how much.
 ghost use mathlib.Core.List.{List, [], _∷_, _++_};
 ghost use mathlib.Core.Path.{_≡_};
-ghost use Prim.Native.Nat.{_+_, _^_, _<_, _≤_};
-ghost use lib.IntN.{_+ℤ_};
+ghost use Prim.Native.Nat.{min, _+_, _-_, _*_, _^_, _<_, _≤_};
+ghost use lib.IntN.{pos, _+ℤ_};
+ghost use lib.Signed.{_≤ℤ_};
 ghost use lib.ListN.{length, getD, set, take};
 ghost use Rattle.std.specs.shelf.Lists.{All};
-ghost use Rattle.lots.specs.Limits.{max-capacity, max-lots};
-ghost use Rattle.lots.specs.Tables.{Lawful-lot};
+ghost use Rattle.lots.specs.Limits.{horizon, max-capacity, max-lots};
+ghost use Rattle.lots.specs.Tables.{Lawful-lot, Lawful};
 ghost use Rattle.lots.specs.declared.Lot.{Lot};
 ghost use Rattle.elastic.specs.Points.{at-est, at-ect, at-lct, Rising, Small, Entered, Profiles, point-at, altered, max-points};
+ghost use Rattle.elastic.specs.Profile.{overflow as left-over};
 ghost use Rattle.elastic.specs.Rows.{Put};
 ghost use Rattle.std.specs.Keys.{unsigned};
 use crate::row::Keyed;
@@ -145,4 +147,81 @@ impl Profile {
         self.enter(Point::at_ect(lot));
         self.enter(Point::at_lct(lot));
     }
+
+    // The profile of a lawful list.
+    pub fn of(lots: &[Lot]) -> Profile
+        requires { ⌜ Lawful max-capacity (now lots) ⌝ }
+        ensures within { λ r. ⌜ r .len ≤ max-points ⌝ }
+        ensures profile { λ r. ⌜ Profiles (take (r .len) (r .points)) (now (lots .entry)) ⌝ }
+    {
+        let unused = Point {
+            minute: 0,
+            available: 0,
+            required: 0,
+        };
+        let mut profile = Profile {
+            points: [unused; MAX_POINTS],
+            len: 0,
+        };
+        for lot in lots {
+            profile.add(lot);
+        }
+        profile
+    }
+
+    // How many points the profile has.
+    pub fn len(&self) -> usize
+        ensures { λ r. ⌜ r ≡ now (self .entry) .len ⌝ }
+    {
+        self.len
+    }
+
+    // What is left over at the last point.
+    pub fn overflow(&self, capacity: u16) -> u32
+        requires within { ⌜ now self .len ≤ max-points ⌝ }
+        requires profile { ⌜ ((Ω : List Lot) × Lawful max-capacity Ω × Profiles (take (now self .len) (now self .points)) Ω) ⌝ }
+        ensures { λ r. ⌜ ((Ω : List Lot) → Lawful max-capacity Ω → Profiles (take (now (self .entry) .len) (now (self .entry) .points)) Ω → r ≡ left-over capacity Ω) ⌝ }
+    {
+        walk(&self.points[0..self.len], capacity)
+    }
+}
+
+// What is left over at the last of the points.
+fn walk(points: &[Point], capacity: u16) -> u32
+    requires { ⌜ ((Ω : List Lot) × Lawful max-capacity Ω × Profiles (now points) Ω) ⌝ }
+    ensures { λ r. ⌜ ((Ω : List Lot) → Lawful max-capacity Ω → Profiles (now (points .entry)) Ω → r ≡ left-over capacity Ω) ⌝ }
+{
+    let mut left = 0;
+    let mut minute = 0;
+    let mut available = 0;
+    let mut required = 0;
+    for point in points {
+        left = left_after(left, point.minute - minute, available, required, capacity);
+        minute = point.minute;
+        available = changed(available, point.available);
+        required = changed(required, point.required);
+    }
+    left
+}
+
+// What is left over after a span of minutes in which no number of trays changes.
+fn left_after(left: u32, span: u16, available: u32, required: u32, capacity: u16) -> u32
+    requires left_few { ⌜ left ≤ max-capacity * max-lots * horizon ⌝ }
+    requires span_short { ⌜ span ≤ horizon ⌝ }
+    requires available_few { ⌜ available ≤ max-capacity * max-lots ⌝ }
+    requires required_few { ⌜ required ≤ max-capacity * max-lots ⌝ }
+    ensures { λ r. ⌜ r ≡ (left + span * required) - span * min available capacity ⌝ }
+{
+    let span = u32::from(span);
+    (left + span * required).saturating_sub(span * available.min(u32::from(capacity)))
+}
+
+// A number of trays after a change.
+fn changed(trays: u32, change: i32) -> u32
+    requires before { ⌜ trays ≤ max-capacity * max-lots ⌝ }
+    requires not_below { ⌜ pos 0 ≤ℤ (pos trays +ℤ change) ⌝ }
+    requires not_above { ⌜ (pos trays +ℤ change) ≤ℤ pos (max-capacity * max-lots) ⌝ }
+    ensures { λ r. ⌜ pos r ≡ pos trays +ℤ change ⌝ }
+{
+    (trays as i32 + change) as u32
 }
