@@ -28,7 +28,7 @@ has-push t u (v ∷ ts) = ap (λ b. eqb t v || b) (has-push t u ts) ∙ or-swap 
 -- a number that is there already adds none
 pub has-known : (t u : ℕ) (ts : List ℕ) → has u ts ≡ true → has t ts ≡ (eqb t u || has t ts)
 has-known t u ts h = elim (cases-bool (eqb t u)) [
-  inl e ↦ ap (λ v. has v ts) (eqb-true t u e) ∙ h ∙ sym (or-left (eqb t u) (has t ts) e)
+  | inl e ↦ ap (λ v. has v ts) (eqb-true t u e) ∙ h ∙ sym (or-left (eqb t u) (has t ts) e)
   | inr n ↦ sym (ap (λ b. b || has t ts) n)
 ]
 
@@ -41,15 +41,15 @@ distinct-push (t ∷ ts) u =
     let ih = distinct-push ts u in
     let here = ap one (has-push t u ts) in
     elim (cases-eq t u) [
-      inl e ↦
-        let now = ap (λ b. one (b || has t ts)) (eq-eqb t u e) in
-        let then = ap (λ b. one (b || has u ts)) (eq-eqb u t (sym e)) in
-        let same = ap (λ v. one (has v ts)) e in
-        omega (arith, here, now, then, same, ih)
+      | inl e ↦
+          let now = ap (λ b. one (b || has t ts)) (eq-eqb t u e) in
+          let then = ap (λ b. one (b || has u ts)) (eq-eqb u t (sym e)) in
+          let same = ap (λ v. one (has v ts)) e in
+          omega (arith, here, now, then, same, ih)
       | inr ne ↦
-        let now = ap (λ b. one (b || has t ts)) (ne-eqb t u ne) in
-        let then = ap (λ b. one (b || has u ts)) (ne-eqb u t (λ e. ne (sym e))) in
-        omega (arith, here, now, then, ih)
+          let now = ap (λ b. one (b || has t ts)) (ne-eqb t u ne) in
+          let then = ap (λ b. one (b || has u ts)) (ne-eqb u t (λ e. ne (sym e))) in
+          omega (arith, here, now, then, ih)
     ]
 
 pub at-most-one : (b : Bool) → cond {A = ℕ} b 0 1 ≤ 1

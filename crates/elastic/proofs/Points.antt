@@ -69,7 +69,7 @@ small-altered a b p e s t = record {
 place-of : (ps : List Point) (t : ℕ) → has t (minutes-of ps) ≡ true → (i : ℕ) × (i < length ps) × ((d : Point) → getD ps i d .minute ≡ t)
 place-of [] t h = absurd (false≢true h)
 place-of (p ∷ ps) t h = elim (or-cases (eqb t (p .minute)) (has t (minutes-of ps)) h) [
-  inl e ↦ (0, omega arith, λ d. sym (eqb-true t (p .minute) e))
+  | inl e ↦ (0, omega arith, λ d. sym (eqb-true t (p .minute) e))
   | inr k ↦ let r = place-of ps t k in (suc (r .0), omega (arith, r .1), r .2)
 ]
 
@@ -88,7 +88,7 @@ module _ (ps : List Point) (e : Point) (i : ℕ) where
   module _ (low : i ≤ length ps) (lacks : (j : ℕ) → Stands unsigned (λ (p : Point). p .minute) (e .minute) ps j → ⊥) (up : Rising (inserted ps i e)) where
     new-minute : has (e .minute) (minutes-of ps) ≡ false
     new-minute = elim (cases-bool (has (e .minute) (minutes-of ps))) [
-      inl h ↦ let r = place-of ps (e .minute) h in absurd (lacks (r .0) (r .1, λ d. equal-rank _ _ (r .2 d)))
+      | inl h ↦ let r = place-of ps (e .minute) h in absurd (lacks (r .0) (r .1, λ d. equal-rank _ _ (r .2 d)))
       | inr h ↦ h
     ]
 
@@ -109,8 +109,8 @@ module _ (ps : List Point) (e : Point) (i : ℕ) where
       available = sums (λ p. p .available);
       required = sums (λ p. p .required);
       small = λ a b s h.
-        let wide = all-weaker (Small a) (Small (a + b)) (weaker-small a (a + b) (omega arith)) ps s in
-        all-append (Small (a + b)) (take i ps) (e ∷ drop i ps) (all-take (Small (a + b)) i ps wide) (weaker-small b (a + b) (omega arith) e h, all-drop (Small (a + b)) i ps wide);
+          let wide = all-weaker (Small a) (Small (a + b)) (weaker-small a (a + b) (omega arith)) ps s in
+          all-append (Small (a + b)) (take i ps) (e ∷ drop i ps) (all-take (Small (a + b)) i ps wide) (weaker-small b (a + b) (omega arith) e h, all-drop (Small (a + b)) i ps wide);
     }
 
   module _ (at : Stands unsigned (λ (p : Point). p .minute) (e .minute) ps i) (up : Rising ps) where
@@ -122,9 +122,9 @@ module _ (ps : List Point) (e : Point) (i : ℕ) where
 
     minute-kept : (j : ℕ) (d : Point) → getD (set ps i new) j d .minute ≡ getD ps j d .minute
     minute-kept j d = elim (cases-eq j i) [
-      inl k ↦
-        let there = ap (λ (p : Point). p .minute) (getD-set-same ps i new d (at .0)) in
-        ap (λ n. getD (set ps i new) n d .minute) k ∙ there ∙ same-minute _ ∙ sym (same-minute d) ∙ ap (λ n. getD ps n d .minute) (sym k)
+      | inl k ↦
+          let there = ap (λ (p : Point). p .minute) (getD-set-same ps i new d (at .0)) in
+          ap (λ n. getD (set ps i new) n d .minute) k ∙ there ∙ same-minute _ ∙ sym (same-minute d) ∙ ap (λ n. getD ps n d .minute) (sym k)
       | inr ne ↦ ap (λ (p : Point). p .minute) (getD-set-other ps i j new d ne)
     ]
 
@@ -139,13 +139,13 @@ module _ (ps : List Point) (e : Point) (i : ℕ) where
     pub entered-present : Entered ps e (set ps i new)
     entered-present = record {
       rising = λ a b d l h.
-        ap₂ (unsigned .cmp) (minute-kept a d) (minute-kept b d) ∙ up a b d l (subst (λ n. b < n) (length-set ps i new) h);
+          ap₂ (unsigned .cmp) (minute-kept a d) (minute-kept b d) ∙ up a b d l (subst (λ n. b < n) (length-set ps i new) h);
       count = length-set ps i new ∙ omega (arith, ap (λ b. cond {A = ℕ} b 0 1) known);
       at = λ t. ap (has t) minutes-kept ∙ has-known t (e .minute) (minutes-of ps) known;
       available = λ t. upto-set (λ p. p .available) t ps i new e (at .0) refl (sym (same-minute _)) refl;
       required = λ t. upto-set (λ p. p .required) t ps i new e (at .0) refl (sym (same-minute _)) refl;
       small = λ a b s h.
-        all-set (Small (a + b)) ps i new (small-altered a b _ e (all-getD (Small a) ps i _ (at .0) s) h) (all-weaker (Small a) (Small (a + b)) (weaker-small a (a + b) (omega arith)) ps s);
+          all-set (Small (a + b)) ps i new (small-altered a b _ e (all-getD (Small a) ps i _ (at .0) s) h) (all-weaker (Small a) (Small (a + b)) (weaker-small a (a + b) (omega arith)) ps s);
     }
 
 -- entering as the code does it: into the first len of the points, of which the row's `put` leaves the first len′ of points′
@@ -177,3 +177,8 @@ module _ (points points′ : List Point) (len len′ : ℕ) (e : Point) (i : ℕ
         let same = ap (λ n. take n points′) as-long ∙ put .1 in
         let is = after ∙ ap₂ (λ ps p. set ps i (altered p e)) same same-point in
         subst (Entered before e) (sym is) (entered-present before e i (put .0) up)
+
+-- a point that is altered leaves as many in use
+pub count-altered : (points points′ : List Point) (len len′ i : ℕ) (q : Point) → len ≡ length (take len points) → len′ ≡ len → points′ ≡ set points i q → len′ ≡ length (take len′ points′)
+count-altered points points′ len len′ i q e s c =
+    omega (arith, length-take len points, length-take len′ points′, ap length c ∙ length-set points i q)

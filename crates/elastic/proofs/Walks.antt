@@ -35,7 +35,7 @@ rest-level C Ω t (suc n) r m level =
     let ih = rest-level C Ω t n r m (λ u h l. level u h (omega arith)) in
     let last = level (t + n) (omega arith) (omega arith) in
     ap (rest C Ω) (add-suc t n) ∙ elim (cases-lt r m) [
-      inl h ↦ omega (arith, ih, last .0, last .1, suc-mul n r, suc-mul n m)
+      | inl h ↦ omega (arith, ih, last .0, last .1, suc-mul n r, suc-mul n m)
       | inr h ↦ omega (arith, ih, last .0, last .1, suc-mul n r, suc-mul n m, mul-le-mul-left n h)
     ]
 
@@ -135,9 +135,9 @@ module _ (C : ℕ) (Ω : List Lot) (ok : Lawful max-capacity Ω) (m a r l : ℕ)
       available = λ t h. omega (arith, ints, is-a, w .available t (omega (arith, w .ahead .0)), counted (λ q. q .available) t h);
       required = λ t h. omega (arith, ints, is-r, w .required t (omega (arith, w .ahead .0)), counted (λ q. q .required) t h);
       left =
-        let span : m + (p .minute - m) ≡ p .minute = omega (arith, w .ahead .0) in
-        let steady = rest-level C Ω m (p .minute - m) r (min a C) (λ t h k. level t h (omega arith)) in
-        is-l ∙ ap (λ n. (n + (p .minute - m) * r) - (p .minute - m) * min a C) (w .left) ∙ sym steady ∙ ap (rest C Ω) span;
+          let span : m + (p .minute - m) ≡ p .minute = omega (arith, w .ahead .0) in
+          let steady = rest-level C Ω m (p .minute - m) r (min a C) (λ t h k. level t h (omega arith)) in
+          is-l ∙ ap (λ n. (n + (p .minute - m) * r) - (p .minute - m) * min a C) (w .left) ∙ sym steady ∙ ap (rest C Ω) span;
       available-few = omega (arith, ints, is-a, next-available, next-available-few);
       required-few = omega (arith, ints, is-r, next-required, next-required-few);
     }
@@ -145,23 +145,23 @@ module _ (C : ℕ) (Ω : List Lot) (ok : Lawful max-capacity Ω) (m a r l : ℕ)
 latest-has : (Ω : List Lot) → 0 < latest Ω → has (latest Ω) (minutes Ω) ≡ true
 latest-has [] h = absurd (omega arith)
 latest-has (x ∷ xs) h = elim (cases-lt (x .lct) (latest xs)) [
-  inl k ↦
-    let same : latest xs ≡ latest (x ∷ xs) = omega arith in
-    let there = subst (λ t. has t (minutes xs) ≡ true) same (latest-has xs (omega arith)) in
-    or-right (eqb (latest (x ∷ xs)) (x .est)) _ (or-right (eqb (latest (x ∷ xs)) (ect x)) _ (or-right (eqb (latest (x ∷ xs)) (x .lct)) _ there))
+  | inl k ↦
+      let same : latest xs ≡ latest (x ∷ xs) = omega arith in
+      let there = subst (λ t. has t (minutes xs) ≡ true) same (latest-has xs (omega arith)) in
+      or-right (eqb (latest (x ∷ xs)) (x .est)) _ (or-right (eqb (latest (x ∷ xs)) (ect x)) _ (or-right (eqb (latest (x ∷ xs)) (x .lct)) _ there))
   | inr k ↦
-    let same : latest (x ∷ xs) ≡ x .lct = omega arith in
-    or-right (eqb (latest (x ∷ xs)) (x .est)) _ (or-right (eqb (latest (x ∷ xs)) (ect x)) _ (or-left (eqb (latest (x ∷ xs)) (x .lct)) _ (eq-eqb (latest (x ∷ xs)) (x .lct) same)))
+      let same : latest (x ∷ xs) ≡ x .lct = omega arith in
+      or-right (eqb (latest (x ∷ xs)) (x .est)) _ (or-right (eqb (latest (x ∷ xs)) (ect x)) _ (or-left (eqb (latest (x ∷ xs)) (x .lct)) _ (eq-eqb (latest (x ∷ xs)) (x .lct) same)))
 ]
 
 minutes-inside : (C t : ℕ) (Ω : List Lot) → All (Lawful-lot C) Ω → has t (minutes Ω) ≡ true → t ≤ latest Ω
 minutes-inside C t [] ok h = absurd (false≢true h)
 minutes-inside C t (x ∷ xs) ok h = elim (or-cases (eqb t (x .est)) _ h) [
-  inl e ↦ omega (arith, eqb-true t (x .est) e, ok .0 .has-time)
+  | inl e ↦ omega (arith, eqb-true t (x .est) e, ok .0 .has-time)
   | inr g ↦ elim (or-cases (eqb t (ect x)) _ g) [
-    inl e ↦ omega (arith, eqb-true t (ect x) e, ok .0 .has-time)
+    | inl e ↦ omega (arith, eqb-true t (ect x) e, ok .0 .has-time)
     | inr f ↦ elim (or-cases (eqb t (x .lct)) _ f) [
-      inl e ↦ omega (arith, eqb-true t (x .lct) e)
+      | inl e ↦ omega (arith, eqb-true t (x .lct) e)
       | inr d ↦ omega (arith, minutes-inside C t xs (ok .1) d)
     ]
   ]
@@ -193,7 +193,7 @@ module _ (C : ℕ) (Ω : List Lot) (ok : Lawful max-capacity Ω) where
     walks-to : Walks C Ω m a r l [] → l ≡ overflow C Ω
     walks-to w =
         let there : m ≡ latest Ω = elim (cases-lt m (latest Ω)) [
-          inl h ↦ absurd (both-ways _ (w .covers (latest Ω) h) (latest-has Ω (omega arith)))
+          | inl h ↦ absurd (both-ways _ (w .covers (latest Ω) h) (latest-has Ω (omega arith)))
           | inr h ↦ omega (arith, w .reached)
         ] in
         let fits = all-weaker _ _ (λ (x : Lot) (f : Lawful-lot max-capacity x). omega (arith, f .has-time)) Ω (ok .each) in

@@ -1,3 +1,4 @@
-pub mod Rows
 pub mod Profile
+pub mod Overflow
+pub mod Rows
 pub mod Points

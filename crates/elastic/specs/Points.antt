@@ -5,7 +5,7 @@ use mathlib.Core.List.{List, [], _∷_, map}
 use mathlib.Core.Path.{_≡_}
 use lib.Dec.{leb, eqb}
 use lib.IntN.{ℤ, pos, negℤ, _+ℤ_}
-use lib.ListN.{length, getD}
+use lib.ListN.{length, getD, take}
 use lib.Signed.{_≤ℤ_}
 use Rattle.std.specs.Keys.{unsigned}
 use Rattle.std.specs.shelf.Lists.{All}
@@ -16,10 +16,15 @@ use Rattle.elastic.specs.Rows.{Ascending}
 use Rattle.elastic.specs.Profile as profile
 use Rattle.elastic.specs.Profile.{creq, minutes, points, has}
 use Rattle.elastic.specs.declared.profile.Point.{Point}
+use Rattle.elastic.specs.declared.profile.Profile.{Profile}
 
 -- at most the est, the ect and the lct of each lot
 abbrev pub max-points : ℕ
 max-points = 3 * max-lots
+
+-- the points that are in use
+abbrev pub used : Profile → List Point
+used p = take (p .len) (p .points)
 
 abbrev pub minutes-of : List Point → List ℕ
 minutes-of ps = map (λ p. p .minute) ps

@@ -4,12 +4,12 @@ ghost use mathlib.Core.Path.{_≡_};
 ghost use Prim.Native.Nat.{min, _+_, _-_, _*_, _^_, _<_, _≤_};
 ghost use lib.IntN.{pos, _+ℤ_};
 ghost use lib.Signed.{_≤ℤ_};
-ghost use lib.ListN.{length, getD, set, take};
+ghost use lib.ListN.{length, set};
 ghost use Rattle.std.specs.shelf.Lists.{All};
 ghost use Rattle.lots.specs.Limits.{horizon, max-capacity, max-lots};
 ghost use Rattle.lots.specs.Tables.{Lawful-lot, Lawful};
 ghost use Rattle.lots.specs.declared.Lot.{Lot};
-ghost use Rattle.elastic.specs.Points.{at-est, at-ect, at-lct, Rising, Small, Entered, Profiles, point-at, altered, max-points};
+ghost use Rattle.elastic.specs.Points.{at-est, at-ect, at-lct, Rising, Small, Entered, Profiles, point-at, altered, max-points, used};
 ghost use Rattle.elastic.specs.Profile.{overflow as left-over};
 ghost use Rattle.elastic.specs.Rows.{Put};
 ghost use Rattle.std.specs.Keys.{unsigned};
@@ -107,10 +107,11 @@ impl Profile {
 
     // Puts a change as a point of its own, unless its minute has one.
     fn put(&mut self, change: Point) -> Place
-        requires { ⌜ Rising (take (now self .len) (now self .points)) ⌝ }
-        ensures put { λ r. ⌜ Put unsigned (λ p. p .minute) change (take (now (self .entry) .len) (now (self .entry) .points)) (now (self .entry) .points) (take (now (self .exit) .len) (now (self .exit) .points)) (now (self .exit) .points) r ⌝ }
-        ensures within { λ _. ⌜ length (now (self .entry) .points) ≡ max-points ⌝ ∗ ⌜ now (self .exit) .len ≤ max-points ⌝ }
-        ensures rising { λ _. ⌜ Rising (take (now (self .exit) .len) (now (self .exit) .points)) ⌝ }
+        requires { ⌜ Rising (used (now self)) ⌝ }
+        ensures put { λ r. ⌜ Put unsigned (λ p. p .minute) change (used (now (self .entry))) (now (self .entry) .points) (used (now (self .exit))) (now (self .exit) .points) r ⌝ }
+        ensures cells { λ _. ⌜ length (now (self .entry) .points) ≡ max-points ⌝ }
+        ensures count { λ _. ⌜ now (self .exit) .len ≡ length (used (now (self .exit))) ⌝ }
+        ensures rising { λ _. ⌜ Rising (used (now (self .exit))) ⌝ }
     {
         let len = self.len;
         let mut row = Row::over(&mut self.points, len);
@@ -122,12 +123,12 @@ impl Profile {
 
     // Enters a change: as a point of its own, or with the changes of the point that its minute has.
     fn enter(&mut self, change: Point)
-        requires free { ⌜ length (take (now self .len) (now self .points)) < max-points ⌝ }
-        requires rising { ⌜ Rising (take (now self .len) (now self .points)) ⌝ }
-        requires small { ⌜ All (Small (2 ^ 30)) (take (now self .len) (now self .points)) ⌝ }
+        requires free { ⌜ length (used (now self)) < max-points ⌝ }
+        requires rising { ⌜ Rising (used (now self)) ⌝ }
+        requires small { ⌜ All (Small (2 ^ 30)) (used (now self)) ⌝ }
         requires small_change { ⌜ Small (2 ^ 29) change ⌝ }
-        ensures within { λ _. ⌜ now (self .exit) .len ≤ max-points ⌝ }
-        ensures entered { λ _. ⌜ Entered (take (now (self .entry) .len) (now (self .entry) .points)) change (take (now (self .exit) .len) (now (self .exit) .points)) ⌝ }
+        ensures count { λ _. ⌜ now (self .exit) .len ≡ length (used (now (self .exit))) ⌝ }
+        ensures entered { λ _. ⌜ Entered (used (now (self .entry))) change (used (now (self .exit))) ⌝ }
     {
         match self.put(change) {
             Place::Placed(_) => {}
@@ -139,9 +140,9 @@ impl Profile {
     // Adds a lot to the list whose profile this is.
     fn add(&mut self, lot: &Lot)
         requires lawful { ⌜ Lawful-lot max-capacity (now lot) ⌝ }
-        requires profile { ⌜ ((Ω : List Lot) × (length Ω < max-lots) × Profiles (take (now self .len) (now self .points)) Ω) ⌝ }
-        ensures within { λ _. ⌜ now (self .exit) .len ≤ max-points ⌝ }
-        ensures profile { λ _. ⌜ ((Ω : List Lot) → Profiles (take (now (self .entry) .len) (now (self .entry) .points)) Ω → Profiles (take (now (self .exit) .len) (now (self .exit) .points)) (Ω ++ now (lot .entry) ∷ [])) ⌝ }
+        requires profile { ⌜ ((Ω : List Lot) × (length Ω < max-lots) × Profiles (used (now self)) Ω) ⌝ }
+        ensures count { λ _. ⌜ now (self .exit) .len ≡ length (used (now (self .exit))) ⌝ }
+        ensures profile { λ _. ⌜ ((Ω : List Lot) → Profiles (used (now (self .entry))) Ω → Profiles (used (now (self .exit))) (Ω ++ now (lot .entry) ∷ [])) ⌝ }
     {
         self.enter(Point::at_est(lot));
         self.enter(Point::at_ect(lot));
@@ -151,8 +152,8 @@ impl Profile {
     // The profile of a lawful list.
     pub fn of(lots: &[Lot]) -> Profile
         requires { ⌜ Lawful max-capacity (now lots) ⌝ }
-        ensures within { λ r. ⌜ r .len ≤ max-points ⌝ }
-        ensures profile { λ r. ⌜ Profiles (take (r .len) (r .points)) (now (lots .entry)) ⌝ }
+        ensures count { λ r. ⌜ r .len ≡ length (used r) ⌝ }
+        ensures profile { λ r. ⌜ Profiles (used r) (now (lots .entry)) ⌝ }
     {
         let unused = Point {
             minute: 0,
@@ -178,9 +179,9 @@ impl Profile {
 
     // What is left over at the last point.
     pub fn overflow(&self, capacity: u16) -> u32
-        requires within { ⌜ now self .len ≤ max-points ⌝ }
-        requires profile { ⌜ ((Ω : List Lot) × Lawful max-capacity Ω × Profiles (take (now self .len) (now self .points)) Ω) ⌝ }
-        ensures { λ r. ⌜ ((Ω : List Lot) → Lawful max-capacity Ω → Profiles (take (now (self .entry) .len) (now (self .entry) .points)) Ω → r ≡ left-over capacity Ω) ⌝ }
+        requires count { ⌜ now self .len ≡ length (used (now self)) ⌝ }
+        requires profile { ⌜ ((Ω : List Lot) × Lawful max-capacity Ω × Profiles (used (now self)) Ω) ⌝ }
+        ensures { λ r. ⌜ ((Ω : List Lot) → Lawful max-capacity Ω → Profiles (used (now (self .entry))) Ω → r ≡ left-over capacity Ω) ⌝ }
     {
         walk(&self.points[0..self.len], capacity)
     }

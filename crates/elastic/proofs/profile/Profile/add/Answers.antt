@@ -40,10 +40,10 @@ enter-requires-3 c κs =
 
 pub returns : need.returns
 returns c = record {
-  within = omega arith;
+  count = c .enter-3 .ensures .count;
   profile = λ Ω p.
-    profiles-push _ _ _ _ Ω _ p (c .pre .lawful)
-    (entered-as _ _ _ _ (c .at-est .ensures) (c .enter .ensures .entered))
-    (entered-as _ _ _ _ (c .at-ect .ensures) (c .enter-2 .ensures .entered))
-    (entered-as _ _ _ _ (c .at-lct .ensures) (c .enter-3 .ensures .entered));
+      profiles-push _ _ _ _ Ω _ p (c .pre .lawful)
+      (entered-as _ _ _ _ (c .at-est .ensures) (c .enter .ensures .entered))
+      (entered-as _ _ _ _ (c .at-ect .ensures) (c .enter-2 .ensures .entered))
+      (entered-as _ _ _ _ (c .at-lct .ensures) (c .enter-3 .ensures .entered));
 }

@@ -1,6 +1,6 @@
 use Prim.Native.Nat.{_^_}
 use native.Mathlib.Omega.{arith}
-use Rattle.elastic.proofs.Points.{entered-by-put, entered-by-alter, small-there}
+use Rattle.elastic.proofs.Points.{entered-by-put, entered-by-alter, small-there, count-altered}
 use Rattle.elastic.proofs.profile.Profile.enter.Needs as need
 
 pub alter-requires : need.alter-requires
@@ -15,17 +15,17 @@ alter-requires c κs =
 pub unreachable-requires : need.unreachable-requires
 unreachable-requires c κs =
     let told = c .in-Full .ensures tt in
-    omega (arith, told .put .1, told .within .0)
+    omega (arith, told .put .1, told .cells)
 
 pub returns-in-Placed : need.returns-in-Placed
 returns-in-Placed c =
     let told = c .in-Placed .ensures tt in
-    record { within = told .within .1; entered = entered-by-put _ _ _ _ (c .args .change) _ (told .put) (told .rising) }
+    record { count = told .count; entered = entered-by-put _ _ _ _ (c .args .change) _ (told .put) (told .rising) }
 
 pub returns-in-Present : need.returns-in-Present
 returns-in-Present c =
     let told = c .in-Present .ensures tt in
     record {
-      within = omega (arith, told .within .1, c .alter .ensures .0);
+      count = count-altered _ _ _ _ _ _ (told .count) (c .alter .ensures .0) (c .alter .ensures .1);
       entered = entered-by-alter _ _ _ _ (c .args .change) _ (told .put) (c .pre .rising) _ _ (c .alter .ensures .0) (c .alter .ensures .1);
     }

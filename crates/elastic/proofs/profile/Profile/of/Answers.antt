@@ -13,12 +13,12 @@ add-requires c κs = record {
 
 pub loop-lot-again : need.loop-lot-again
 loop-lot-again c = (
-  c .add .ensures .within,
+  c .add .ensures .count,
   subst (Profiles _) (sym (take-more _ _ _ (c .loop-lot-test .taken))) (c .add .ensures .profile _ (c .loop-lot .inv .1)),
 )
 
 pub returns : need.returns
 returns c = record {
-  within = c .loop-lot .inv .0;
+  count = c .loop-lot .inv .0;
   profile = subst (Profiles _) (take-all _ _ (c .loop-lot-test .left)) (c .loop-lot .inv .1);
 }

@@ -1,5 +1,4 @@
-use mathlib.Core.Path.{ap}
-use lib.ListN.{length}
+use Rattle.std.proofs.shelf.Lists.{length-take}
 use native.Mathlib.Omega.{arith}
 use Rattle.std.specs.Keys.{unsigned}
 use Rattle.elastic.proofs.Rows.{put-given-back, ascending-lent, ascending-given-back}
@@ -11,6 +10,7 @@ returns c =
     let up = ascending-lent unsigned (λ (p : Point). p .minute) (c .args .change) _ _ _ _ _ _ _ (c .over-row .ensures .0) (c .over-row .ensures .2) (c .len-grown .ensures) (c .pre) in
     record {
       put = put-given-back unsigned (λ (p : Point). p .minute) (c .args .change) _ _ _ _ _ _ _ (c .over-row .ensures .0) (c .over-row .ensures .2) (c .len-grown .ensures) _ (c .put-place .ensures .put unsigned up);
-      within = (omega arith, omega (arith, c .put-place .ensures .cells, ap length (c .over-row .ensures .2)));
+      cells = omega arith;
+      count = omega (arith, length-take (c .len-grown .result) (c .put-place .last .self .cells .now));
       rising = ascending-given-back unsigned (λ (p : Point). p .minute) (c .args .change) _ _ _ _ _ _ _ (c .over-row .ensures .0) (c .over-row .ensures .2) (c .len-grown .ensures) (c .put-place .ensures .ascends unsigned up);
     }
