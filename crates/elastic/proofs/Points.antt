@@ -20,7 +20,7 @@ use Rattle.std.proofs.shelf.Lists.{map-append, map-set, set-getD, take-append-d
 use Rattle.std.proofs.shelf.Ways.{tells}
 use Rattle.std.proofs.shelf.Tests.{cases-eq, false≢true, cases-bool, or-cases, or-left, or-right, eqb-true, eq-eqb}
 use Rattle.elastic.specs.Profile.{has}
-use Rattle.elastic.specs.Rows.{Stands, Put}
+use Rattle.elastic.specs.Rows.{Stands, Stored, Seated}
 use Rattle.elastic.specs.declared.row.Place.the-variants.{Placed, Present}
 use Rattle.elastic.specs.Points.{upto, point-at, altered, Small, minutes-of, Rising, Entered}
 use Rattle.elastic.proofs.Rows.{nowhere}
@@ -153,30 +153,30 @@ module _ (points points′ : List Point) (len len′ : ℕ) (e : Point) (i : ℕ
   abbrev before : List Point
   before = take len points
 
-  pub entered-by-put : Put unsigned (λ (p : Point). p .minute) e before points (take len′ points′) points′ (Placed i) → Rising (take len′ points′) → Entered before e (take len′ points′)
-  entered-by-put put up =
-      let row = put .4 in
-      let lacks = nowhere unsigned (λ (p : Point). p .minute) before (e .minute) i (put .1) (put .2) in
-      subst (Entered before e) (sym row) (entered-placed before e i (put .0) lacks (subst Rising row up))
+  pub entered-by-put : Stored e before points (take len′ points′) points′ (Placed i) → Seated unsigned (λ (p : Point). p .minute) e before (Placed i) → Rising (take len′ points′) → Entered before e (take len′ points′)
+  entered-by-put stored seated up =
+      let row = stored .2 in
+      let lacks = nowhere unsigned (λ (p : Point). p .minute) before (e .minute) i (seated .0) (seated .1) in
+      subst (Entered before e) (sym row) (entered-placed before e i (stored .0) lacks (subst Rising row up))
 
-  module _ (put : Put unsigned (λ (p : Point). p .minute) e before points (take len′ points′) points′ (Present i)) where
+  module _ (stored : Stored e before points (take len′ points′) points′ (Present i)) where
     inside : i < len
-    inside = omega (arith, put .0 .0, length-take len points)
+    inside = omega (arith, stored .0, length-take len points)
 
     -- the point that is altered, seen in the points in use
     same-point : point-at points′ i ≡ point-at before i
-    same-point = ap (λ ps. point-at ps i) (put .2) ∙ sym (getD-take len points i _ inside)
+    same-point = ap (λ ps. point-at ps i) (stored .2) ∙ sym (getD-take len points i _ inside)
 
     pub small-there : (b : ℕ) → All (Small b) before → Small b (point-at points′ i)
-    small-there b s = subst (Small b) (sym same-point) (all-getD (Small b) before i _ (put .0 .0) s)
+    small-there b s = subst (Small b) (sym same-point) (all-getD (Small b) before i _ (stored .0) s)
 
-    pub entered-by-alter : Rising before → (points″ : List Point) (len″ : ℕ) → len″ ≡ len′ → points″ ≡ set points′ i (altered (point-at points′ i) e) → Entered before e (take len″ points″)
-    entered-by-alter up points″ len″ as-long changed =
-        let within : i < len″ = omega (arith, put .0 .0, ap length (put .1), length-take len′ points′) in
+    pub entered-by-alter : Seated unsigned (λ (p : Point). p .minute) e before (Present i) → Rising before → (points″ : List Point) (len″ : ℕ) → len″ ≡ len′ → points″ ≡ set points′ i (altered (point-at points′ i) e) → Entered before e (take len″ points″)
+    entered-by-alter seated up points″ len″ as-long changed =
+        let within : i < len″ = omega (arith, stored .0, ap length (stored .1), length-take len′ points′) in
         let after = ap (take len″) changed ∙ take-set-lt len″ points′ i _ within in
-        let same = ap (λ n. take n points′) as-long ∙ put .1 in
+        let same = ap (λ n. take n points′) as-long ∙ stored .1 in
         let is = after ∙ ap₂ (λ ps p. set ps i (altered p e)) same same-point in
-        subst (Entered before e) (sym is) (entered-present before e i (put .0) up)
+        subst (Entered before e) (sym is) (entered-present before e i seated up)
 
 -- a point that is altered leaves as many in use
 pub count-altered : (points points′ : List Point) (len len′ i : ℕ) (q : Point) → len ≡ length (take len points) → len′ ≡ len → points′ ≡ set points i q → len′ ≡ length (take len′ points′)

@@ -15,7 +15,7 @@ use Rattle.std.specs.declared.result.Result.the-variants.{Ok, Err}
 use Rattle.std.proofs.shelf.Edits.{length-inserted, getD-inserted-below, getD-inserted-at, getD-inserted-above}
 use Rattle.std.proofs.shelf.Lists.{getD-default, length-take, take-all, take-at}
 use Rattle.std.proofs.shelf.Tests.{cases-lt, cases-order}
-use Rattle.elastic.specs.Rows.{Ascending, Below, Above, Stands, Sought, Put}
+use Rattle.elastic.specs.Rows.{Ascending, Below, Above, Stands, Sought, Seated, Stored}
 use Rattle.elastic.specs.declared.row.Place.{Place}
 use Rattle.elastic.specs.declared.row.Place.the-variants.{Placed, Present, Full}
 
@@ -122,55 +122,51 @@ module _ {E K : Type 0} {R : K → K → Ordering → Type 0} (o : Total R) (key
               cc
         ]
 
-  -- what `put` answers, by the place that it found
-  module _ (cells : List E) (n len : ℕ) (size : len ≡ min n (length cells)) (k : K) (e : E) (named : k ≡ key e) (i : ℕ) where
-    abbrev row : List E
-    row = take n cells
-
-    pub put-present : Sought o key k row (Ok i) → Put o key e row cells row cells (Present i)
-    put-present found = (subst (λ q. Sought o key q row (Ok i)) named found, refl, refl)
+  -- the place that was found for the key of e
+  module _ (row : List E) (k : K) (e : E) (named : k ≡ key e) (i : ℕ) where
+    pub seated-present : Sought o key k row (Ok i) → Seated o key e row (Present i)
+    seated-present found = subst (λ q. Stands o key q row i) named found
 
     module _ (found : Sought o key k row (Err i)) where
-      place : Sought o key (key e) row (Err i)
-      place = subst (λ q. Sought o key q row (Err i)) named found
+      pub seated-placed : Seated o key e row (Placed i)
+      seated-placed = subst (λ q. Below o key q row i × Above o key q row i) named (found .1, found .2)
 
-      row-length : length row ≡ len
-      row-length = length-take n cells ∙ sym size
+      pub seated-full : Seated o key e row Full
+      seated-full = nowhere row (key e) i (seated-placed .0) (seated-placed .1)
 
-      pub put-full : len ≡ length cells → Put o key e row cells row cells Full
-      put-full full = (nowhere row (key e) i (place .1) (place .2), row-length ∙ full, refl, refl)
+  pub stored-ascends : (e : E) (row cells row′ cells′ : List E) (i : ℕ) → Stored e row cells row′ cells′ (Placed i) → Seated o key e row (Placed i) → Ascending o key row → Ascending o key row′
+  stored-ascends e row cells row′ cells′ i s t up = subst (Ascending o key) (sym (s .2)) (ascending-inserted row e i up (s .0) (t .0) (t .1))
 
-      module _ (cells′ : List E) (free : len ≡ length cells → ⊥) (made : cells′ ≡ inserted (take len cells) i e ++ drop (len + 1) cells) where
-        cells-after : cells′ ≡ inserted row i e ++ drop (length row + 1) cells
-        cells-after = let same = take-min cells n len size in let long = row-length in cc
+-- what `put` leaves: the row is the first n of the cells, of which there are len
+module _ {E : Type 0} (cells : List E) (n len : ℕ) (size : len ≡ min n (length cells)) (e : E) where
+  row-length : length (take n cells) ≡ len
+  row-length = length-take n cells ∙ sym size
 
-        row-after : take (len + 1) cells′ ≡ inserted row i e
-        row-after =
-            ap (take (len + 1)) cells-after
-            ∙ take-at (inserted row i e) (drop (length row + 1) cells) (len + 1) (omega (arith, length-inserted row i e (place .0), row-length))
+  pub stored-full : len ≡ length cells → Stored e (take n cells) cells (take n cells) cells Full
+  stored-full full = (row-length ∙ full, refl, refl)
 
-        pub put-placed : Put o key e row cells (take (len + 1) cells′) cells′ (Placed i)
-        put-placed = (place .0, place .1, place .2, omega (arith, row-length, size), row-after, cells-after)
+  module _ (i : ℕ) (low : i ≤ length (take n cells)) (cells′ : List E) (free : len ≡ length cells → ⊥) (made : cells′ ≡ inserted (take len cells) i e ++ drop (len + 1) cells) where
+    cells-after : cells′ ≡ inserted (take n cells) i e ++ drop (length (take n cells) + 1) cells
+    cells-after = let same = take-min cells n len size in let long = row-length in cc
 
-        pub placed-ascends : Ascending o key row → Ascending o key (take (len + 1) cells′)
-        placed-ascends up = subst (Ascending o key) (sym row-after) (ascending-inserted row e i up (place .0) (place .1) (place .2))
+    row-after : take (len + 1) cells′ ≡ inserted (take n cells) i e
+    row-after =
+        ap (take (len + 1)) cells-after
+        ∙ take-at (inserted (take n cells) i e) (drop (length (take n cells) + 1) cells) (len + 1) (omega (arith, length-inserted (take n cells) i e low, row-length))
 
-  -- what `put` did to a row over cells that were lent holds of the cells themselves
-  module _ (e : E) (cells lent cells′ : List E) (len n n′ len′ : ℕ) (as-long : n ≡ len) (as-lent : lent ≡ cells) (size : len′ ≡ min n′ (length cells′)) where
-    same-before : take n lent ≡ take len cells
-    same-before = cc
+    pub stored-placed : Stored e (take n cells) cells (take (len + 1) cells′) cells′ (Placed i)
+    stored-placed = (low, omega (arith, row-length, size), row-after, cells-after)
 
-    same-after : take n′ cells′ ≡ take len′ cells′
-    same-after = sym (take-min cells′ n′ len′ size)
+-- what a row did to cells that were lent to it holds of the cells themselves
+module _ {E : Type 0} (cells lent cells′ : List E) (len n n′ len′ : ℕ) (as-long : n ≡ len) (as-lent : lent ≡ cells) (size : len′ ≡ min n′ (length cells′)) where
+  pub same-before : take n lent ≡ take len cells
+  same-before = cc
 
-    pub put-given-back : (r : Place) → Put o key e (take n lent) lent (take n′ cells′) cells′ r → Put o key e (take len cells) cells (take len′ cells′) cells′ r
-    put-given-back r put =
-        subst (λ row′. Put o key e (take len cells) cells row′ cells′ r) same-after
-        (subst (λ row. Put o key e row cells (take n′ cells′) cells′ r) same-before
-        (subst (λ before. Put o key e (take n lent) before (take n′ cells′) cells′ r) as-lent put))
+  pub same-after : take n′ cells′ ≡ take len′ cells′
+  same-after = sym (take-min cells′ n′ len′ size)
 
-    pub ascending-lent : Ascending o key (take len cells) → Ascending o key (take n lent)
-    ascending-lent = subst (Ascending o key) (sym same-before)
-
-    pub ascending-given-back : Ascending o key (take n′ cells′) → Ascending o key (take len′ cells′)
-    ascending-given-back = subst (Ascending o key) same-after
+  pub stored-given-back : (e : E) (r : Place) → Stored e (take n lent) lent (take n′ cells′) cells′ r → Stored e (take len cells) cells (take len′ cells′) cells′ r
+  stored-given-back e r stored =
+      subst (λ row′. Stored e (take len cells) cells row′ cells′ r) same-after
+      (subst (λ row. Stored e row cells (take n′ cells′) cells′ r) same-before
+      (subst (λ before. Stored e (take n lent) before (take n′ cells′) cells′ r) as-lent stored))

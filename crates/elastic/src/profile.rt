@@ -11,7 +11,7 @@ ghost use Rattle.lots.specs.Tables.{Lawful-lot, Lawful};
 ghost use Rattle.lots.specs.declared.Lot.{Lot};
 ghost use Rattle.elastic.specs.Points.{at-est, at-ect, at-lct, Rising, Small, Entered, Profiles, point-at, altered, max-points, used};
 ghost use Rattle.elastic.specs.Profile.{overflow as left-over};
-ghost use Rattle.elastic.specs.Rows.{Put};
+ghost use Rattle.elastic.specs.Rows.{Stored, Seated};
 ghost use Rattle.std.specs.Keys.{unsigned};
 use crate::row::Keyed;
 use crate::row::Place;
@@ -108,7 +108,8 @@ impl Profile {
     // Puts a change as a point of its own, unless its minute has one.
     fn put(&mut self, change: Point) -> Place
         requires { ⌜ Rising (used (now self)) ⌝ }
-        ensures put { λ r. ⌜ Put unsigned (λ p. p .minute) change (used (now (self .entry))) (now (self .entry) .points) (used (now (self .exit))) (now (self .exit) .points) r ⌝ }
+        ensures stored { λ r. ⌜ Stored change (used (now (self .entry))) (now (self .entry) .points) (used (now (self .exit))) (now (self .exit) .points) r ⌝ }
+        ensures seated { λ r. ⌜ Seated unsigned (λ p. p .minute) change (used (now (self .entry))) r ⌝ }
         ensures cells { λ _. ⌜ length (now (self .entry) .points) ≡ max-points ⌝ }
         ensures count { λ _. ⌜ now (self .exit) .len ≡ length (used (now (self .exit))) ⌝ }
         ensures rising { λ _. ⌜ Rising (used (now (self .exit))) ⌝ }

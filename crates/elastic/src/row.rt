@@ -7,7 +7,7 @@ ghost use denote.Ref.{name};
 ghost use Rattle.std.specs.Holes.{inserted};
 ghost use Rattle.std.specs.Keys.{Total};
 ghost use Rattle.std.specs.Results.{Cases};
-ghost use Rattle.elastic.specs.Rows.{Ascending, Sought, Put};
+ghost use Rattle.elastic.specs.Rows.{cells-of, row-of, Ascending, Sought, Stored, Seated};
 use std::cmp::Ordering;
 
 // Where an element came to stand.
@@ -77,15 +77,15 @@ impl<'a, E: Keyed + Copy> Row<'a, E> {
 
     // How many elements the row has.
     pub fn len(&self) -> usize
-        ensures { λ r. ⌜ r ≡ min (now (self .entry) .len) (length (now (now (self .entry) .cells))) ⌝ }
+        ensures { λ r. ⌜ r ≡ min (now (self .entry) .len) (length (cells-of (now (self .entry)))) ⌝ }
     {
         self.len.min(self.cells.len())
     }
 
     // The place of the key in the row: where it stands, or else where it would.
     fn seek(&self, key: E::Key) -> Result<usize, usize>
-        ensures bound { λ r. ⌜ Cases r (λ i. i < length (take (now (self .entry) .len) (now (now (self .entry) .cells)))) (λ i. i ≤ length (take (now (self .entry) .len) (now (now (self .entry) .cells)))) ⌝ }
-        ensures found { λ r. ⌜ ((o : Total (Key·Ord .orders)) → Ascending o keyed (take (now (self .entry) .len) (now (now (self .entry) .cells))) → Sought o keyed key (take (now (self .entry) .len) (now (now (self .entry) .cells))) r) ⌝ }
+        ensures bound { λ r. ⌜ Cases r (λ i. i < length (row-of (now (self .entry)))) (λ i. i ≤ length (row-of (now (self .entry)))) ⌝ }
+        ensures found { λ r. ⌜ ((o : Total (Key·Ord .orders)) → Ascending o keyed (row-of (now (self .entry))) → Sought o keyed key (row-of (now (self .entry))) r) ⌝ }
     {
         let len = self.len();
         place_of(&self.cells[0..len], key)
@@ -94,9 +94,9 @@ impl<'a, E: Keyed + Copy> Row<'a, E> {
     // Puts an element at the place of its key, unless the key is there or no cell is free.
     pub fn put(&mut self, element: E) -> Place
         ensures lent { λ r. ⌜ name (now (self .exit) .cells) ≡ name (now (self .entry) .cells) ⌝ }
-        ensures cells { λ r. ⌜ length (now (now (self .exit) .cells)) ≡ length (now (now (self .entry) .cells)) ⌝ }
-        ensures put { λ r. ⌜ ((o : Total (Key·Ord .orders)) → Ascending o keyed (take (now (self .entry) .len) (now (now (self .entry) .cells))) → Put o keyed element (take (now (self .entry) .len) (now (now (self .entry) .cells))) (now (now (self .entry) .cells)) (take (now (self .exit) .len) (now (now (self .exit) .cells))) (now (now (self .exit) .cells)) r) ⌝ }
-        ensures ascends { λ r. ⌜ ((o : Total (Key·Ord .orders)) → Ascending o keyed (take (now (self .entry) .len) (now (now (self .entry) .cells))) → Ascending o keyed (take (now (self .exit) .len) (now (now (self .exit) .cells)))) ⌝ }
+        ensures stored { λ r. ⌜ Stored element (row-of (now (self .entry))) (cells-of (now (self .entry))) (row-of (now (self .exit))) (cells-of (now (self .exit))) r ⌝ }
+        ensures seated { λ r. ⌜ ((o : Total (Key·Ord .orders)) → Ascending o keyed (row-of (now (self .entry))) → Seated o keyed element (row-of (now (self .entry))) r) ⌝ }
+        ensures ascends { λ r. ⌜ ((o : Total (Key·Ord .orders)) → Ascending o keyed (row-of (now (self .entry))) → Ascending o keyed (row-of (now (self .exit)))) ⌝ }
     {
         let len = self.len();
         match self.seek(element.key()) {
