@@ -112,3 +112,52 @@ impl<'a, E: Keyed + Copy> Row<'a, E> {
         }
     }
 }
+
+#[cfg(test)]
+mod tests {
+    use super::*;
+    use std::test::*;
+
+    #[derive(Clone, Copy, PartialEq, Eq, Debug)]
+    pub struct Mark(u16, u8);
+
+    pub impl Keyed for Mark as MarkKeyed {
+        type Key = u16;
+
+        ghost keyed = { λ m. m .0 };
+
+        fn key(&self) -> u16 {
+            self.0
+        }
+    }
+
+    #[test]
+    fn keys_come_to_stand_in_order() -> Result<(), Fail> {
+        let mut cells = [Mark(0, 0); 4];
+        let mut row = Row::over(&mut cells, 0);
+        check_eq(row.put(Mark(5, 1)), Place::Placed(0))?;
+        check_eq(row.put(Mark(3, 2)), Place::Placed(0))?;
+        check_eq(row.put(Mark(9, 3)), Place::Placed(2))?;
+        check_eq(row.len(), 3)?;
+        check_eq(cells, [Mark(3, 2), Mark(5, 1), Mark(9, 3), Mark(0, 0)])
+    }
+
+    #[test]
+    fn a_key_that_is_there_changes_nothing() -> Result<(), Fail> {
+        let mut cells = [Mark(3, 2), Mark(5, 1), Mark(9, 3)];
+        let mut row = Row::over(&mut cells, 3);
+        check_eq(row.put(Mark(3, 7)), Place::Present(0))?;
+        check_eq(row.put(Mark(9, 7)), Place::Present(2))?;
+        check_eq(row.put(Mark(4, 7)), Place::Full)?;
+        check_eq(row.len(), 3)?;
+        check_eq(cells, [Mark(3, 2), Mark(5, 1), Mark(9, 3)])
+    }
+
+    #[test]
+    fn no_cells_are_full() -> Result<(), Fail> {
+        let mut cells: [Mark; 0] = [];
+        let mut row = Row::over(&mut cells, 5);
+        check_eq(row.len(), 0)?;
+        check_eq(row.put(Mark(1, 1)), Place::Full)
+    }
+}

@@ -10,3 +10,11 @@ max-capacity = 200
 
 abbrev pub max-lots : ℕ
 max-lots = 64
+
+-- the most bytes of a sheet
+abbrev pub max-sheet : ℕ
+max-sheet = 16384
+
+-- the fewest bytes of a buffer for its print
+abbrev pub min-print : ℕ
+min-print = 32768

@@ -11,6 +11,10 @@ pub const HORIZON: u16 = 10_080;
 pub const MAX_CAPACITY: u16 = 200;
 // The most lots that a table may have.
 pub const MAX_LOTS: usize = 64;
+// The most bytes that a sheet may have.
+pub const MAX_SHEET: usize = 16_384;
+// The fewest bytes that a buffer for the print of a sheet may have.
+pub const MIN_PRINT: usize = 32_768;
 
 // One lot of goods: it may go in at `est`, must be out by `lct`, runs for `p` minutes on `c` trays.
 #[derive(Clone, Copy, PartialEq, Eq, Debug)]
@@ -83,5 +87,80 @@ impl Refusal {
         ensures { λ r. ⌜ r ≡ refusal-number self ⌝ }
     {
         self as u8
+    }
+}
+
+#[cfg(test)]
+mod tests {
+    use super::*;
+    use std::test::*;
+
+    const WEEK: Lot = Lot {
+        est: 0,
+        lct: HORIZON,
+        p: HORIZON,
+        c: 1,
+    };
+
+    #[test]
+    fn capacity_is_1_to_200() -> Result<(), Fail> {
+        check(!is_lawful(0, &[]))?;
+        check(is_lawful(1, &[]))?;
+        check(is_lawful(200, &[WEEK]))?;
+        check(!is_lawful(201, &[WEEK]))
+    }
+
+    #[test]
+    fn lots_are_at_most_64() -> Result<(), Fail> {
+        check(is_lawful(1, &[WEEK; 64]))?;
+        check(!is_lawful(1, &[WEEK; 65]))
+    }
+
+    #[test]
+    fn a_lot_fits_its_window() -> Result<(), Fail> {
+        check(WEEK.is_lawful(1))?;
+        check(!Lot { est: 1, ..WEEK }.is_lawful(1))?;
+        check(
+            !Lot {
+                lct: 10_081,
+                ..WEEK
+            }.is_lawful(1),
+        )?;
+        check(
+            !Lot {
+                est: 60_000,
+                ..WEEK
+            }.is_lawful(1),
+        )?;
+        check(!Lot { p: 0, ..WEEK }.is_lawful(1))
+    }
+
+    #[test]
+    fn a_lot_fits_the_trays() -> Result<(), Fail> {
+        check(!Lot { c: 0, ..WEEK }.is_lawful(1))?;
+        check(Lot { c: 24, ..WEEK }.is_lawful(24))?;
+        check(!Lot { c: 25, ..WEEK }.is_lawful(24))
+    }
+
+    #[test]
+    fn a_lawless_lot_is_found_at_the_end() -> Result<(), Fail> {
+        check(!is_lawful(1, &[WEEK, Lot { p: 0, ..WEEK }]))
+    }
+
+    #[test]
+    fn an_earliest_end_may_pass_16_bits() -> Result<(), Fail> {
+        let late = Lot {
+            est: 65_535,
+            p: 65_535,
+            ..WEEK
+        };
+        check_eq(late.ect(), 131_070)
+    }
+
+    #[test]
+    fn refusals_have_their_numbers() -> Result<(), Fail> {
+        check_eq(Refusal::Capacity.number(), 1)?;
+        check_eq(Refusal::Unlawful.number(), 9)?;
+        check_eq(Refusal::Commands.number(), 16)
     }
 }
