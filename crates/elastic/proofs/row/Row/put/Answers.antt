@@ -24,8 +24,8 @@ returns-else-len-self g c = record {
   stored = stored-placed _ _ _ (c .len-len .ensures) _ _ (c .in-Err .ensures tt .bound) _ (c .if-len-self .left) (c .insert .ensures);
   seated = λ o up. seated-placed o (g .E·Keyed .keyed) _ _ _ (c .key .ensures) _ (c .in-Err .ensures tt .found o up);
   ascends = λ o up.
-    stored-ascends o (g .E·Keyed .keyed) _ _ _ _ _ _
-    (stored-placed _ _ _ (c .len-len .ensures) _ _ (c .in-Err .ensures tt .bound) _ (c .if-len-self .left) (c .insert .ensures))
-    (seated-placed o (g .E·Keyed .keyed) _ _ _ (c .key .ensures) _ (c .in-Err .ensures tt .found o up))
-    up;
+      stored-ascends o (g .E·Keyed .keyed) _ _ _ _ _ _
+      (stored-placed _ _ _ (c .len-len .ensures) _ _ (c .in-Err .ensures tt .bound) _ (c .if-len-self .left) (c .insert .ensures))
+      (seated-placed o (g .E·Keyed .keyed) _ _ _ (c .key .ensures) _ (c .in-Err .ensures tt .found o up))
+      up;
 }
