@@ -1,9 +1,9 @@
 -- An element written after the first n of a list and turned to its place among them.
 use Prim.Native.Nat.{ℕ, _+_, _-_, _<_, _≤_}
 use mathlib.Core.List.{List, [], _∷_, _++_}
-use mathlib.Core.Path.{_≡_, refl, sym, ap, ap₂, subst, _∙_}
+use mathlib.Core.Path.{_≡_, sym, ap, ap₂, subst, _∙_}
 use native.Mathlib.Omega.{arith}
-use lib.ListN.{length, set, take, drop, getD}
+use lib.ListN.{length, set, take, drop}
 use borrow.Rule.Slice.PartMut.{putMid}
 use Rattle.std.specs.Holes.{inserted, between}
 use Rattle.std.proofs.shelf.Lists.{append-assoc, length-set, length-take-le, length-drop, length-append, getD-set-same, take-set, take-set-le, take-take, take-at, drop-at, drop-drop, drop-set-lt}

@@ -1,4 +1,4 @@
--- The profile counted from minute 0, and not from the earliest est. Assumes nothing.
+-- The profile counted from minute 0, and not from the earliest est.
 use Prim.Native.Nat.{ℕ, zero, suc, _+_, _-_, _<_, _≤_}
 use mathlib.Core.Bool.{cond}
 use mathlib.Core.List.{List, [], _∷_}

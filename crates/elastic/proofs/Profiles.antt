@@ -1,5 +1,5 @@
 -- A lot added to a profile.
-use Prim.Native.Nat.{ℕ, _+_, _*_, _^_, _<_, _≤_}
+use Prim.Native.Nat.{ℕ, _+_, _*_, _<_, _≤_}
 use mathlib.Core.Bool.{Bool, true, false, cond, _||_}
 use mathlib.Core.List.{List, [], _∷_, _++_}
 use mathlib.Core.Path.{_≡_, refl, sym, ap, ap₂, subst, _∙_}
@@ -8,15 +8,15 @@ use lib.Dec.{leb, eqb}
 use lib.IntN.{ℤ, pos, negℤ, _+ℤ_}
 use lib.ListN.{length}
 use Rattle.std.specs.shelf.Lists.{All}
-use Rattle.std.proofs.shelf.Lists.{append-assoc, length-push}
+use Rattle.std.proofs.shelf.Lists.{length-push}
 use Rattle.std.proofs.shelf.Signed.{ints}
 use Rattle.std.proofs.shelf.Ways.{tells}
 use Rattle.lots.specs.Limits.{max-capacity}
 use Rattle.lots.specs.Schedules.{spans}
 use Rattle.lots.specs.Tables.{ect, Lawful-lot}
 use Rattle.lots.specs.declared.Lot.{Lot}
-use Rattle.elastic.specs.Profile.{available, creq, minutes, points, has, distinct}
-use Rattle.elastic.specs.Points.{max-points, minutes-of, at-est, at-ect, at-lct, available-upto, required-upto, Small, Entered, Profiles}
+use Rattle.elastic.specs.Profile.{available, creq, minutes, has, distinct}
+use Rattle.elastic.specs.Points.{max-points, minutes-of, at-est, at-ect, at-lct, Small, Entered, Profiles}
 use Rattle.elastic.specs.declared.profile.Point.{Point}
 use Rattle.std.proofs.shelf.Elements.{all-weaker}
 use Rattle.elastic.proofs.Counts.{has-push, distinct-push, at-most-one, points-few}
@@ -119,8 +119,5 @@ few-more n ps qs e f s m = (
   subst (λ b. All (Small b) qs) (omega arith) (m .small _ max-capacity (f .1) s),
 )
 
-pub few-small : (n : ℕ) (ps : List Point) → Few n ps → n < max-points → All (Small (2 ^ 30)) ps
-few-small n ps f h = all-weaker _ _ (weaker-small (max-capacity * n) (2 ^ 30) (omega arith)) ps (f .1)
-
-pub change-small : (e : Point) → Small max-capacity e → Small (2 ^ 29) e
-change-small e s = weaker-small max-capacity (2 ^ 29) (omega arith) e s
+pub few-small : (n : ℕ) (ps : List Point) → Few n ps → n < max-points → All (Small (max-capacity * max-points)) ps
+few-small n ps f h = all-weaker _ _ (weaker-small (max-capacity * n) (max-capacity * max-points) (omega arith)) ps (f .1)

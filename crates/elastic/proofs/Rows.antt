@@ -8,9 +8,8 @@ use lib.ListN.{length, getD, take, drop}
 use Rattle.std.specs.Keys.{Total}
 use Rattle.std.specs.Orderings.{reversed}
 use Rattle.std.specs.declared.cmp.Ordering.{Ordering}
-use Rattle.std.specs.declared.cmp.Ordering.the-variants.{Less, Equal, Greater}
+use Rattle.std.specs.declared.cmp.Ordering.the-variants.{Less, Greater}
 use Rattle.std.specs.Holes.{inserted}
-use Rattle.std.specs.declared.result.Result.{Result}
 use Rattle.std.specs.declared.result.Result.the-variants.{Ok, Err}
 use Rattle.std.proofs.shelf.Edits.{length-inserted, getD-inserted-below, getD-inserted-at, getD-inserted-above}
 use Rattle.std.proofs.shelf.Lists.{getD-default, length-take, take-all, take-at}
@@ -42,10 +41,6 @@ module _ {E K : Type 0} {R : K → K → Ordering → Type 0} (o : Total R) (key
     module _ (i : ℕ) (x : E) (h : i < length row) (is : x ≡ getD row i x) (kx : K) (named : kx ≡ key x) where
       read : (r : Ordering) → R kx k r → o .cmp (key (getD row i x)) k ≡ r
       read r e = let says = o .says kx k r e in cc
-
-      -- the place i has the key
-      pub stands-at : R kx k Equal → Stands o key k row i
-      stands-at e = (h, λ b. alike-at i i Equal x b refl h (read Equal e))
 
       module _ (up : Ascending o key row) (n : ℕ) where
         -- a lower key has only lower ones before it

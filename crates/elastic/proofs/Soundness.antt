@@ -1,4 +1,4 @@
--- Lots that have a schedule leave no overflow. Assumes nothing.
+-- Lots that have a schedule leave no overflow.
 use Prim.Native.Nat.{ℕ, zero, suc, min, _+_, _-_, _*_, _≤_}
 use mathlib.Core.Bool.{Bool, true, false, cond}
 use mathlib.Core.List.{List, [], _∷_}

@@ -3,10 +3,10 @@ use Prim.Native.Nat.{ℕ, zero, suc, min, _+_, _-_, _*_, _<_, _≤_}
 use mathlib.Core.Bool.{Bool, true, false, cond, _||_}
 use mathlib.Core.List.{List, [], _∷_}
 use mathlib.Core.Logic.{inl, inr}
-use mathlib.Core.Path.{_≡_, refl, sym, ap, ap₂, subst, _∙_}
+use mathlib.Core.Path.{_≡_, refl, sym, ap, subst, _∙_}
 use native.Mathlib.Nat.{add-suc, add-zero, zero-mul, suc-mul, mul-le-mul-left}
 use native.Mathlib.Omega.{arith}
-use lib.Dec.{leb, eqb}
+use lib.Dec.{eqb}
 use lib.IntN.{ℤ, pos, _+ℤ_}
 use lib.ListN.{length, drop}
 use Rattle.std.specs.shelf.Lists.{All}
@@ -23,7 +23,7 @@ use Rattle.lots.specs.Tables.{ect, Lawful-lot, Lawful}
 use Rattle.lots.specs.declared.Lot.{Lot}
 use Rattle.elastic.specs.Profile as profile
 use Rattle.elastic.specs.Profile.{latest, cmax, creq, minutes, has, overflow}
-use Rattle.elastic.specs.Points.{minutes-of, point-at, Rising, upto, available-upto, required-upto, Profiles}
+use Rattle.elastic.specs.Points.{minutes-of, point-at, Rising, upto, Profiles}
 use Rattle.elastic.specs.declared.profile.Point.{Point}
 use Rattle.elastic.proofs.Points.{has-at}
 use Rattle.elastic.proofs.Minutes.{rest, overflow-rest}
@@ -39,6 +39,10 @@ rest-level C Ω t (suc n) r m level =
       | inr h ↦ omega (arith, ih, last .0, last .1, suc-mul n r, suc-mul n m, mul-le-mul-left n h)
     ]
 
+-- from the minute m on, F is n and what the points ps ahead change
+abbrev Level : (Point → ℤ) → (ℕ → ℕ) → (m n : ℕ) → List Point → Type 0
+Level f F m n ps = (t : ℕ) → m ≤ t → pos (F t) ≡ pos n +ℤ upto f ps t
+
 -- where the walk stands: at the minute m, with a trays available, r required, l left over, and the points ps ahead
 pub record Walks (C : ℕ) (Ω : List Lot) (m a r l : ℕ) (ps : List Point) : Type 0 where
   pub rising : Rising ps
@@ -46,8 +50,8 @@ pub record Walks (C : ℕ) (Ω : List Lot) (m a r l : ℕ) (ps : List Point) : T
   pub inside : All (λ p. p .minute ≤ latest Ω) ps
   pub reached : m ≤ latest Ω
   pub covers : (t : ℕ) → m < t → has t (minutes Ω) ≡ has t (minutes-of ps)
-  pub available : (t : ℕ) → m ≤ t → pos (profile.available Ω t) ≡ pos a +ℤ available-upto ps t
-  pub required : (t : ℕ) → m ≤ t → pos (creq Ω t) ≡ pos r +ℤ required-upto ps t
+  pub available : Level (λ p. p .available) (profile.available Ω) m a ps
+  pub required : Level (λ p. p .required) (creq Ω) m r ps
   pub left : l ≡ rest C Ω m
   pub available-few : a ≤ max-capacity * max-lots
   pub required-few : r ≤ max-capacity * max-lots
@@ -85,31 +89,36 @@ rising-tail p ps up i j d h l = up (suc i) (suc j) d (omega arith) (omega arith)
 rising-ahead : (p : Point) (ps : List Point) → Rising (p ∷ ps) → All (λ q. p .minute < q .minute) ps
 rising-ahead p ps up = all-from-getD (λ q. p .minute < q .minute) ps p (λ i l. rank-less _ _ (up 0 (suc i) p (omega arith) (omega arith)))
 
-module _ (C : ℕ) (Ω : List Lot) (ok : Lawful max-capacity Ω) (m a r l : ℕ) (p : Point) (ps : List Point) (w : Walks C Ω m a r l (p ∷ ps)) where
+-- a level at the next point p
+module _ (f : Point → ℤ) (F : ℕ → ℕ) (m n : ℕ) (p : Point) (ps : List Point) (up : Rising (p ∷ ps)) (later : m ≤ p .minute) (level : Level f F m n (p ∷ ps)) where
   after : All (λ q. p .minute < q .minute) ps
-  after = rising-ahead p ps (w .rising)
+  after = rising-ahead p ps up
 
-  -- before the next point nothing changes
-  none-before : (f : Point → ℤ) (t : ℕ) → t < p .minute → upto f (p ∷ ps) t ≡ pos 0
-  none-before f t h = upto-ahead t f (p ∷ ps) (h, all-weaker _ _ (λ q g. omega arith) ps after)
+  -- from p on, it counts
+  counted : (t : ℕ) → p .minute ≤ t → upto f (p ∷ ps) t ≡ f p +ℤ upto f ps t
+  counted t h = ap (λ b. cond b (f p) (pos 0) +ℤ upto f ps t) (le-leb (p .minute) t h)
 
-  level : (t : ℕ) → m ≤ t → t < p .minute → (creq Ω t ≡ r) × (cmax C Ω t ≡ min a C)
-  level t h k = (
-    omega (arith, ints, w .required t h, none-before (λ q. q .required) t k),
-    ap (λ n. min n C) (omega (arith, ints, w .available t h, none-before (λ q. q .available) t k)),
-  )
+  level-before : (t : ℕ) → m ≤ t → t < p .minute → F t ≡ n
+  level-before t h k = omega (arith, ints, level t h, upto-ahead t f (p ∷ ps) (k, all-weaker _ _ (λ q g. omega arith) ps after))
 
-  -- from the next point on it counts
-  counted : (f : Point → ℤ) (t : ℕ) → p .minute ≤ t → upto f (p ∷ ps) t ≡ f p +ℤ upto f ps t
-  counted f t h = ap (λ b. cond b (f p) (pos 0) +ℤ upto f ps t) (le-leb (p .minute) t h)
+  level-there : pos (F (p .minute)) ≡ pos n +ℤ f p
+  level-there = omega (arith, ints, level (p .minute) later, counted (p .minute) (omega arith), upto-ahead (p .minute) f ps after)
 
+  level-on : (n′ : ℕ) → pos n′ ≡ pos n +ℤ f p → Level f F (p .minute) n′ ps
+  level-on n′ is t h = omega (arith, ints, is, level t (omega arith), counted t h)
+
+module _ (C : ℕ) (Ω : List Lot) (ok : Lawful max-capacity Ω) (m a r l : ℕ) (p : Point) (ps : List Point) (w : Walks C Ω m a r l (p ∷ ps)) where
   pub next-available : pos (profile.available Ω (p .minute)) ≡ pos a +ℤ p .available
-  next-available =
-      omega (arith, ints, w .available (p .minute) (w .ahead .0), counted (λ q. q .available) (p .minute) (omega arith), upto-ahead (p .minute) (λ q. q .available) ps after)
+  next-available = level-there (λ q. q .available) (profile.available Ω) m a p ps (w .rising) (w .ahead .0) (w .available)
 
   pub next-required : pos (creq Ω (p .minute)) ≡ pos r +ℤ p .required
-  next-required =
-      omega (arith, ints, w .required (p .minute) (w .ahead .0), counted (λ q. q .required) (p .minute) (omega arith), upto-ahead (p .minute) (λ q. q .required) ps after)
+  next-required = level-there (λ q. q .required) (creq Ω) m r p ps (w .rising) (w .ahead .0) (w .required)
+
+  steady : (t : ℕ) → m ≤ t → t < p .minute → (creq Ω t ≡ r) × (cmax C Ω t ≡ min a C)
+  steady t h k = (
+    level-before (λ q. q .required) (creq Ω) m r p ps (w .rising) (w .ahead .0) (w .required) t h k,
+    ap (λ n. min n C) (level-before (λ q. q .available) (profile.available Ω) m a p ps (w .rising) (w .ahead .0) (w .available) t h k),
+  )
 
   pub next-later : m ≤ p .minute
   next-later = w .ahead .0
@@ -128,16 +137,16 @@ module _ (C : ℕ) (Ω : List Lot) (ok : Lawful max-capacity Ω) (m a r l : ℕ)
     pub walks-on : Walks C Ω (p .minute) a′ r′ l′ ps
     walks-on = record {
       rising = rising-tail p ps (w .rising);
-      ahead = all-weaker _ _ (λ q g. omega arith) ps after;
+      ahead = all-weaker _ _ (λ q g. omega arith) ps (rising-ahead p ps (w .rising));
       inside = w .inside .1;
       reached = w .inside .0;
       covers = λ t h. w .covers t (omega (arith, w .ahead .0)) ∙ ap (λ b. b || has t (minutes-of ps)) (ne-eqb t (p .minute) (omega arith));
-      available = λ t h. omega (arith, ints, is-a, w .available t (omega (arith, w .ahead .0)), counted (λ q. q .available) t h);
-      required = λ t h. omega (arith, ints, is-r, w .required t (omega (arith, w .ahead .0)), counted (λ q. q .required) t h);
+      available = level-on (λ q. q .available) (profile.available Ω) m a p ps (w .rising) (w .ahead .0) (w .available) a′ is-a;
+      required = level-on (λ q. q .required) (creq Ω) m r p ps (w .rising) (w .ahead .0) (w .required) r′ is-r;
       left =
           let span : m + (p .minute - m) ≡ p .minute = omega (arith, w .ahead .0) in
-          let steady = rest-level C Ω m (p .minute - m) r (min a C) (λ t h k. level t h (omega arith)) in
-          is-l ∙ ap (λ n. (n + (p .minute - m) * r) - (p .minute - m) * min a C) (w .left) ∙ sym steady ∙ ap (rest C Ω) span;
+          let level = rest-level C Ω m (p .minute - m) r (min a C) (λ t h k. steady t h (omega arith)) in
+          is-l ∙ ap (λ n. (n + (p .minute - m) * r) - (p .minute - m) * min a C) (w .left) ∙ sym level ∙ ap (rest C Ω) span;
       available-few = omega (arith, ints, is-a, next-available, next-available-few);
       required-few = omega (arith, ints, is-r, next-required, next-required-few);
     }

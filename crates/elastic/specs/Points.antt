@@ -9,7 +9,7 @@ use lib.ListN.{length, getD, take}
 use lib.Signed.{_≤ℤ_}
 use Rattle.std.specs.Keys.{unsigned}
 use Rattle.std.specs.shelf.Lists.{All}
-use Rattle.lots.specs.Limits.{horizon, max-capacity, max-lots}
+use Rattle.lots.specs.Limits.{max-capacity, max-lots}
 use Rattle.lots.specs.Tables.{ect}
 use Rattle.lots.specs.declared.Lot.{Lot}
 use Rattle.elastic.specs.Rows.{Ascending}

@@ -1,6 +1,6 @@
 -- The elastic profile of a list of lots Ω under the capacity C.
 use Prim.Native.Nat.{ℕ, zero, suc, min, max, _+_, _-_}
-use mathlib.Core.Bool.{Bool, true, false, cond, _||_}
+use mathlib.Core.Bool.{Bool, false, cond, _||_}
 use mathlib.Core.List.{List, [], _∷_}
 use lib.Dec.{eqb}
 use Rattle.lots.specs.Tables.{ect}

@@ -1,7 +1,7 @@
 // The points of an elastic profile: the minutes at which it changes, and by how much.
 ghost use mathlib.Core.List.{List, [], _∷_, _++_};
 ghost use mathlib.Core.Path.{_≡_};
-ghost use Prim.Native.Nat.{min, _+_, _-_, _*_, _^_, _<_, _≤_};
+ghost use Prim.Native.Nat.{min, _+_, _-_, _*_, _<_, _≤_};
 ghost use lib.IntN.{pos, _+ℤ_};
 ghost use lib.Signed.{_≤ℤ_};
 ghost use lib.ListN.{length, set};
@@ -24,7 +24,7 @@ const MAX_POINTS: usize = 3 * MAX_LOTS;
 
 // A minute, and by how much the available and the required trays change at it.
 #[derive(Clone, Copy)]
-pub struct Point {
+struct Point {
     minute: u16,
     available: i32,
     required: i32,
@@ -68,7 +68,7 @@ impl Point {
 
     // Adds the two changes of another point to those of this one.
     fn add(&mut self, change: Point)
-        requires { ⌜ Small (2 ^ 30) (now self) ⌝ ∗ ⌜ Small (2 ^ 29) change ⌝ }
+        requires { ⌜ Small (max-capacity * max-points) (now self) ⌝ ∗ ⌜ Small max-capacity change ⌝ }
         ensures { λ _. ⌜ now (self .exit) ≡ altered (now (self .entry)) change ⌝ }
     {
         self.available += change.available;
@@ -76,7 +76,7 @@ impl Point {
     }
 }
 
-pub impl Keyed for Point as PointKeyed {
+impl Keyed for Point as PointKeyed {
     type Key = u16;
 
     ghost keyed = { λ p. p .minute };
@@ -88,7 +88,7 @@ pub impl Keyed for Point as PointKeyed {
 
 // The first `len` points are in use, in the order of their minutes.
 #[derive(Clone, Copy)]
-pub struct Profile {
+pub(crate) struct Profile {
     points: [Point; MAX_POINTS],
     len: usize,
 }
@@ -97,8 +97,8 @@ impl Profile {
     // Adds to the two changes of the point at the place i.
     fn alter(&mut self, i: usize, change: Point)
         requires within { ⌜ i < max-points ⌝ }
-        requires small { ⌜ Small (2 ^ 30) (point-at (now self .points) i) ⌝ }
-        requires small_change { ⌜ Small (2 ^ 29) change ⌝ }
+        requires small { ⌜ Small (max-capacity * max-points) (point-at (now self .points) i) ⌝ }
+        requires small_change { ⌜ Small max-capacity change ⌝ }
         ensures { λ _. ⌜ (now (self .exit) .len ≡ now (self .entry) .len) × (now (self .exit) .points ≡ set (now (self .entry) .points) i (altered (point-at (now (self .entry) .points) i) change)) ⌝ }
     {
         let point = &mut self.points[i];
@@ -126,8 +126,8 @@ impl Profile {
     fn enter(&mut self, change: Point)
         requires free { ⌜ length (used (now self)) < max-points ⌝ }
         requires rising { ⌜ Rising (used (now self)) ⌝ }
-        requires small { ⌜ All (Small (2 ^ 30)) (used (now self)) ⌝ }
-        requires small_change { ⌜ Small (2 ^ 29) change ⌝ }
+        requires small { ⌜ All (Small (max-capacity * max-points)) (used (now self)) ⌝ }
+        requires small_change { ⌜ Small max-capacity change ⌝ }
         ensures count { λ _. ⌜ now (self .exit) .len ≡ length (used (now (self .exit))) ⌝ }
         ensures entered { λ _. ⌜ Entered (used (now (self .entry))) change (used (now (self .exit))) ⌝ }
     {
@@ -151,7 +151,7 @@ impl Profile {
     }
 
     // The profile of a lawful list.
-    pub fn of(lots: &[Lot]) -> Profile
+    pub(crate) fn of(lots: &[Lot]) -> Profile
         requires { ⌜ Lawful max-capacity (now lots) ⌝ }
         ensures count { λ r. ⌜ r .len ≡ length (used r) ⌝ }
         ensures profile { λ r. ⌜ Profiles (used r) (now (lots .entry)) ⌝ }
@@ -172,14 +172,14 @@ impl Profile {
     }
 
     // How many points the profile has.
-    pub fn len(&self) -> usize
+    pub(crate) fn len(&self) -> usize
         ensures { λ r. ⌜ r ≡ now (self .entry) .len ⌝ }
     {
         self.len
     }
 
     // What is left over at the last point.
-    pub fn overflow(&self, capacity: u16) -> u32
+    pub(crate) fn overflow(&self, capacity: u16) -> u32
         requires count { ⌜ now self .len ≡ length (used (now self)) ⌝ }
         requires profile { ⌜ ((Ω : List Lot) × Lawful max-capacity Ω × Profiles (used (now self)) Ω) ⌝ }
         ensures { λ r. ⌜ ((Ω : List Lot) → Lawful max-capacity Ω → Profiles (used (now (self .entry))) Ω → r ≡ left-over capacity Ω) ⌝ }

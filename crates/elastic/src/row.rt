@@ -93,10 +93,10 @@ impl<'a, E: Keyed + Copy> Row<'a, E> {
 
     // Puts an element at the place of its key, unless the key is there or no cell is free.
     pub fn put(&mut self, element: E) -> Place
-        ensures lent { λ r. ⌜ name (now (self .exit) .cells) ≡ name (now (self .entry) .cells) ⌝ }
+        ensures lent { λ _. ⌜ name (now (self .exit) .cells) ≡ name (now (self .entry) .cells) ⌝ }
         ensures stored { λ r. ⌜ Stored element (row-of (now (self .entry))) (cells-of (now (self .entry))) (row-of (now (self .exit))) (cells-of (now (self .exit))) r ⌝ }
         ensures seated { λ r. ⌜ ((o : Total (Key·Ord .orders)) → Ascending o keyed (row-of (now (self .entry))) → Seated o keyed element (row-of (now (self .entry))) r) ⌝ }
-        ensures ascends { λ r. ⌜ ((o : Total (Key·Ord .orders)) → Ascending o keyed (row-of (now (self .entry))) → Ascending o keyed (row-of (now (self .exit)))) ⌝ }
+        ensures ascends { λ _. ⌜ ((o : Total (Key·Ord .orders)) → Ascending o keyed (row-of (now (self .entry))) → Ascending o keyed (row-of (now (self .exit)))) ⌝ }
     {
         let len = self.len();
         match self.seek(element.key()) {

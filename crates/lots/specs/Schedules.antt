@@ -3,7 +3,6 @@ use Prim.Native.Nat.{ℕ, max, _+_, _≤_}
 use mathlib.Core.Bool.{Bool, cond, _&&_}
 use mathlib.Core.List.{List, [], _∷_}
 use lib.Dec.{leb, ltb}
-use Rattle.lots.specs.Tables.{ect}
 use Rattle.lots.specs.declared.Lot.{Lot}
 
 -- whether the minute t lies in the half-open span from a to b: a ≤ t < b

@@ -5,7 +5,7 @@ use Rattle.std.proofs.shelf.Elements.{all-more, all-getD}
 use Rattle.std.proofs.shelf.Lists.{take-all}
 use Rattle.std.proofs.shelf.Ways.{not-from-decides}
 use Rattle.std.specs.shelf.Lists.{All}
-use Rattle.lots.specs.Tables.{Lawful-lot, Lawful}
+use Rattle.lots.specs.Tables.{Lawful-lot}
 use Rattle.lots.proofs.is_lawful.Needs as need
 use Rattle.lots.proofs.is_lawful.Needs.{then-number-ge-MAX-LOTS·by·then-number-ge-MAX-LOTS, then-number-ge-MAX-LOTS·by·else-number-ge-MAX-LOTS·then-not-is-lawful}
 

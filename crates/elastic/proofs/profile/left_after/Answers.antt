@@ -1,7 +1,7 @@
-use Prim.Native.Nat.{_*_, _≤_}
+use Prim.Native.Nat.{_≤_}
 use native.Mathlib.Nat.{mul-le-mul}
 use native.Mathlib.Omega.{arith}
-use Rattle.lots.specs.Limits.{horizon, max-capacity, max-lots}
+use Rattle.lots.specs.Limits.{horizon}
 use Rattle.elastic.proofs.profile.left_after.Needs as need
 
 pub add-left : need.add-left

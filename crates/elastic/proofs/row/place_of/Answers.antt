@@ -1,5 +1,5 @@
 use native.Mathlib.Omega.{arith}
-use Rattle.elastic.proofs.Rows.{stands-at, below-upto, above-from, below-same, above-same}
+use Rattle.elastic.proofs.Rows.{below-upto, above-from, below-same, above-same}
 use Rattle.elastic.proofs.row.place_of.Needs as need
 use Rattle.elastic.proofs.row.place_of.Needs.{in-Less, in-Greater}
 

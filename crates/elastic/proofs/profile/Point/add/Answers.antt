@@ -1,7 +1,6 @@
-use mathlib.Core.Path.{_≡_, ap₂}
+use mathlib.Core.Path.{ap₂}
 use native.Mathlib.Omega.{arith}
 use Rattle.std.proofs.shelf.Signed.{ints}
-use Rattle.elastic.specs.declared.profile.Point.{Point}
 use Rattle.elastic.proofs.profile.Point.add.Needs as need
 
 pub returns : need.returns

@@ -2,7 +2,7 @@ use mathlib.Core.Path.{sym, subst}
 use native.Mathlib.Omega.{arith}
 use Rattle.lots.specs.Limits.{max-capacity}
 use Rattle.elastic.specs.Points.{Small}
-use Rattle.elastic.proofs.Profiles.{few-from-profile, few-more, few-small, change-small, entered-as, small-at-est, small-at-ect, small-at-lct, profiles-push}
+use Rattle.elastic.proofs.Profiles.{few-from-profile, few-more, few-small, entered-as, small-at-est, small-at-ect, small-at-lct, profiles-push}
 use Rattle.elastic.proofs.profile.Profile.add.Needs as need
 
 pub enter-requires : need.enter-requires
@@ -12,7 +12,7 @@ enter-requires c κs =
       free = omega (arith, few .0, c .pre .profile .1);
       rising = c .pre .profile .2 .rising;
       small = few-small _ _ few (omega (arith, c .pre .profile .1));
-      small-change = change-small _ (subst (Small max-capacity) (sym (c .at-est .ensures)) (small-at-est _ (c .pre .lawful)));
+      small-change = subst (Small max-capacity) (sym (c .at-est .ensures)) (small-at-est _ (c .pre .lawful));
     }
 
 pub enter-requires-2 : need.enter-requires-2
@@ -23,7 +23,7 @@ enter-requires-2 c κs =
       free = omega (arith, few .0, c .pre .profile .1);
       rising = c .enter .ensures .entered .rising;
       small = few-small _ _ few (omega (arith, c .pre .profile .1));
-      small-change = change-small _ (subst (Small max-capacity) (sym (c .at-ect .ensures)) (small-at-ect _ (c .pre .lawful)));
+      small-change = subst (Small max-capacity) (sym (c .at-ect .ensures)) (small-at-ect _ (c .pre .lawful));
     }
 
 pub enter-requires-3 : need.enter-requires-3
@@ -35,7 +35,7 @@ enter-requires-3 c κs =
       free = omega (arith, few .0, c .pre .profile .1);
       rising = c .enter-2 .ensures .entered .rising;
       small = few-small _ _ few (omega (arith, c .pre .profile .1));
-      small-change = change-small _ (subst (Small max-capacity) (sym (c .at-lct .ensures)) (small-at-lct _ (c .pre .lawful)));
+      small-change = subst (Small max-capacity) (sym (c .at-lct .ensures)) (small-at-lct _ (c .pre .lawful));
     }
 
 pub returns : need.returns

@@ -1,4 +1,3 @@
-use Prim.Native.Nat.{_^_}
 use native.Mathlib.Omega.{arith}
 use Rattle.elastic.proofs.Points.{entered-by-put, entered-by-alter, small-there, count-altered}
 use Rattle.elastic.proofs.profile.Profile.enter.Needs as need
@@ -8,7 +7,7 @@ alter-requires c κs =
     let stored = c .in-Present .ensures tt .stored in
     record {
       within = omega (arith, stored .0);
-      small = small-there _ _ _ _ (c .args .change) _ stored (2 ^ 30) (c .pre .small);
+      small = small-there _ _ _ _ (c .args .change) _ stored _ (c .pre .small);
       small-change = c .pre .small-change;
     }
 
