@@ -8,6 +8,7 @@ use lib.Dec.{eqb}
 use lib.ListN.{length}
 use Rattle.lots.specs.declared.Lot.{Lot}
 use mathlib.Core.Logic.{inl, inr}
+use Rattle.std.proofs.shelf.Lists.{append-nil}
 use Rattle.std.proofs.shelf.Tests.{cases-bool, cases-eq, eqb-true, or-left, eq-eqb, ne-eqb}
 use Rattle.elastic.specs.Profile.{has, distinct, minutes, points}
 
@@ -22,8 +23,7 @@ has-between t u [] us = refl
 has-between t u (v ∷ ts) us = ap (λ b. eqb t v || b) (has-between t u ts us) ∙ or-swap (eqb t v) (eqb t u) (has t (ts ++ us))
 
 pub has-push : (t u : ℕ) (ts : List ℕ) → has t (ts ++ (u ∷ [])) ≡ (eqb t u || has t ts)
-has-push t u [] = refl
-has-push t u (v ∷ ts) = ap (λ b. eqb t v || b) (has-push t u ts) ∙ or-swap (eqb t v) (eqb t u) (has t ts)
+has-push t u ts = has-between t u ts [] ∙ ap (λ us. eqb t u || has t us) (append-nil ts)
 
 -- a number that is there already adds none
 pub has-known : (t u : ℕ) (ts : List ℕ) → has u ts ≡ true → has t ts ≡ (eqb t u || has t ts)

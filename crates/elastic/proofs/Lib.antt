@@ -3,6 +3,7 @@ pub mod Rows
 pub mod Minutes
 pub mod Soundness
 pub mod Counts
+pub mod Keys
 pub mod Points
 pub mod Profiles
 pub mod Walks

@@ -1,10 +1,10 @@
 -- Entering a change into a table of points.
 use Prim.Native.Nat.{ℕ, zero, suc, _+_, _<_, _≤_}
-use mathlib.Core.Bool.{Bool, true, false, cond, _||_}
+use mathlib.Core.Bool.{Bool, true, false, cond}
 use mathlib.Core.List.{List, [], _∷_, _++_}
 use mathlib.Core.Path.{_≡_, refl, sym, ap, ap₂, subst, _∙_}
 use native.Mathlib.Omega.{arith}
-use lib.Dec.{leb, eqb}
+use lib.Dec.{leb}
 use lib.IntN.{ℤ, pos, _+ℤ_}
 use lib.ListN.{length, getD, set, take, drop}
 use lib.Seq.{take-set-lt}
@@ -13,19 +13,21 @@ use Rattle.std.specs.shelf.Lists.{All}
 use Rattle.std.proofs.shelf.Signed.{ints}
 use mathlib.Core.Logic.{inl, inr}
 use Rattle.std.specs.Keys.{unsigned}
-use Rattle.std.specs.declared.cmp.Ordering.the-variants.{Equal}
 use Rattle.std.proofs.shelf.Edits.{length-inserted}
 use Rattle.std.proofs.shelf.Elements.{all-weaker, all-append, all-take, all-drop, all-set, all-getD}
-use Rattle.std.proofs.shelf.Lists.{map-append, map-set, set-getD, take-append-drop, getD-set-same, getD-set-other, getD-map, getD-take, length-set, length-take}
-use Rattle.std.proofs.shelf.Ways.{tells}
-use Rattle.std.proofs.shelf.Tests.{cases-eq, false≢true, cases-bool, or-cases, or-left, or-right, eqb-true, eq-eqb}
+use Rattle.std.proofs.shelf.Lists.{map-set, set-getD, take-append-drop, getD-set-same, getD-set-other, getD-map, getD-take, length-set, length-take}
+use Rattle.std.proofs.shelf.Tests.{cases-eq}
 use Rattle.elastic.specs.Profile.{has}
 use Rattle.elastic.specs.Rows.{Stands, Stored, Seated}
 use Rattle.elastic.specs.declared.row.Place.the-variants.{Placed, Present}
 use Rattle.elastic.specs.Points.{upto, point-at, altered, Small, minutes-of, Rising, Entered}
 use Rattle.elastic.proofs.Rows.{nowhere}
-use Rattle.elastic.proofs.Counts.{has-between, has-known}
+use Rattle.elastic.proofs.Counts.{has-known}
+use Rattle.elastic.proofs.Keys.{keys-inserted, key-stands, stands-known, lacks-key}
 use Rattle.elastic.specs.declared.profile.Point.{Point}
+
+abbrev minute : Point → ℕ
+minute p = p .minute
 
 cond-sum : (b : Bool) (x y z : ℤ) → x ≡ y +ℤ z → cond b x (pos 0) ≡ cond b y (pos 0) +ℤ cond b z (pos 0)
 cond-sum true x y z e = e
@@ -65,47 +67,16 @@ small-altered a b p e s t = record {
   required-high = omega (arith, ints);
 }
 
--- where a minute of the table stands
-place-of : (ps : List Point) (t : ℕ) → has t (minutes-of ps) ≡ true → (i : ℕ) × (i < length ps) × ((d : Point) → getD ps i d .minute ≡ t)
-place-of [] t h = absurd (false≢true h)
-place-of (p ∷ ps) t h = elim (or-cases (eqb t (p .minute)) (has t (minutes-of ps)) h) [
-  | inl e ↦ (0, omega arith, λ d. sym (eqb-true t (p .minute) e))
-  | inr k ↦ let r = place-of ps t k in (suc (r .0), omega (arith, r .1), r .2)
-]
-
-pub has-at : (ps : List Point) (i t : ℕ) (d : Point) → i < length ps → getD ps i d .minute ≡ t → has t (minutes-of ps) ≡ true
-has-at [] i t d h e = absurd (omega arith)
-has-at (p ∷ ps) zero t d h e = or-left (eqb t (p .minute)) (has t (minutes-of ps)) (eq-eqb t (p .minute) (sym e))
-has-at (p ∷ ps) (suc i) t d h e = or-right (eqb t (p .minute)) (has t (minutes-of ps)) (has-at ps i t d (omega arith) e)
-
-equal-rank : (x y : ℕ) → x ≡ y → unsigned .cmp x y ≡ Equal
-equal-rank x y e = grind (arith, tells)
-
-rank-equal : (x y : ℕ) → unsigned .cmp x y ≡ Equal → x ≡ y
-rank-equal x y e = grind (arith, tells)
-
 module _ (ps : List Point) (e : Point) (i : ℕ) where
-  module _ (low : i ≤ length ps) (lacks : (j : ℕ) → Stands unsigned (λ (p : Point). p .minute) (e .minute) ps j → ⊥) (up : Rising (inserted ps i e)) where
-    new-minute : has (e .minute) (minutes-of ps) ≡ false
-    new-minute = elim (cases-bool (has (e .minute) (minutes-of ps))) [
-      | inl h ↦ let r = place-of ps (e .minute) h in absurd (lacks (r .0) (r .1, λ d. equal-rank _ _ (r .2 d)))
-      | inr h ↦ h
-    ]
-
-    whole : (t : ℕ) → has t (minutes-of (inserted ps i e)) ≡ (eqb t (e .minute) || has t (minutes-of ps))
-    whole t =
-        let split = map-append (λ (p : Point). p .minute) (take i ps) (e ∷ drop i ps) in
-        let joined = sym (map-append (λ (p : Point). p .minute) (take i ps) (drop i ps)) ∙ ap minutes-of (take-append-drop i ps) in
-        ap (has t) split ∙ has-between t (e .minute) (minutes-of (take i ps)) (minutes-of (drop i ps)) ∙ ap (λ ts. eqb t (e .minute) || has t ts) joined
-
+  module _ (low : i ≤ length ps) (lacks : (j : ℕ) → Stands unsigned minute (e .minute) ps j → ⊥) (up : Rising (inserted ps i e)) where
     sums : (f : Point → ℤ) (t : ℕ) → upto f (inserted ps i e) t ≡ upto f ps t +ℤ part f t e
     sums f t = upto-between f t (take i ps) (drop i ps) e ∙ ap (λ qs. upto f qs t +ℤ part f t e) (take-append-drop i ps)
 
     pub entered-placed : Entered ps e (inserted ps i e)
     entered-placed = record {
       rising = up;
-      count = length-inserted ps i e low ∙ ap (λ b. length ps + cond b 0 1) (sym new-minute);
-      at = whole;
+      count = length-inserted ps i e low ∙ ap (λ b. length ps + cond b 0 1) (sym (lacks-key minute ps (e .minute) lacks));
+      at = keys-inserted minute ps e i;
       available = sums (λ p. p .available);
       required = sums (λ p. p .required);
       small = λ a b s h.
@@ -113,28 +84,27 @@ module _ (ps : List Point) (e : Point) (i : ℕ) where
           all-append (Small (a + b)) (take i ps) (e ∷ drop i ps) (all-take (Small (a + b)) i ps wide) (weaker-small b (a + b) (omega arith) e h, all-drop (Small (a + b)) i ps wide);
     }
 
-  module _ (at : Stands unsigned (λ (p : Point). p .minute) (e .minute) ps i) (up : Rising ps) where
+  module _ (at : Stands unsigned minute (e .minute) ps i) (up : Rising ps) where
     abbrev new : Point
     new = altered (point-at ps i) e
 
     same-minute : (d : Point) → getD ps i d .minute ≡ e .minute
-    same-minute d = rank-equal (getD ps i d .minute) (e .minute) (at .1 d)
+    same-minute = key-stands minute ps (e .minute) i at
 
     minute-kept : (j : ℕ) (d : Point) → getD (set ps i new) j d .minute ≡ getD ps j d .minute
     minute-kept j d = elim (cases-eq j i) [
       | inl k ↦
-          let there = ap (λ (p : Point). p .minute) (getD-set-same ps i new d (at .0)) in
+          let there = ap minute (getD-set-same ps i new d (at .0)) in
           ap (λ n. getD (set ps i new) n d .minute) k ∙ there ∙ same-minute _ ∙ sym (same-minute d) ∙ ap (λ n. getD ps n d .minute) (sym k)
-      | inr ne ↦ ap (λ (p : Point). p .minute) (getD-set-other ps i j new d ne)
+      | inr ne ↦ ap minute (getD-set-other ps i j new d ne)
     ]
 
     minutes-kept : minutes-of (set ps i new) ≡ minutes-of ps
     minutes-kept =
-        let minute : Point → ℕ = λ p. p .minute in
         map-set minute ps i new ∙ ap (set (minutes-of ps) i) (sym (getD-map minute ps i _ 0 (at .0))) ∙ set-getD (minutes-of ps) i 0
 
     known : has (e .minute) (minutes-of ps) ≡ true
-    known = has-at ps i (e .minute) e (at .0) (same-minute e)
+    known = stands-known minute ps (e .minute) i e at
 
     pub entered-present : Entered ps e (set ps i new)
     entered-present = record {
@@ -153,10 +123,10 @@ module _ (points points′ : List Point) (len len′ : ℕ) (e : Point) (i : ℕ
   abbrev before : List Point
   before = take len points
 
-  pub entered-by-put : Stored e before points (take len′ points′) points′ (Placed i) → Seated unsigned (λ (p : Point). p .minute) e before (Placed i) → Rising (take len′ points′) → Entered before e (take len′ points′)
+  pub entered-by-put : Stored e before points (take len′ points′) points′ (Placed i) → Seated unsigned minute e before (Placed i) → Rising (take len′ points′) → Entered before e (take len′ points′)
   entered-by-put stored seated up =
       let row = stored .2 in
-      let lacks = nowhere unsigned (λ (p : Point). p .minute) before (e .minute) i (seated .0) (seated .1) in
+      let lacks = nowhere unsigned minute before (e .minute) i (seated .0) (seated .1) in
       subst (Entered before e) (sym row) (entered-placed before e i (stored .0) lacks (subst Rising row up))
 
   module _ (stored : Stored e before points (take len′ points′) points′ (Present i)) where
@@ -170,7 +140,7 @@ module _ (points points′ : List Point) (len len′ : ℕ) (e : Point) (i : ℕ
     pub small-there : (b : ℕ) → All (Small b) before → Small b (point-at points′ i)
     small-there b s = subst (Small b) (sym same-point) (all-getD (Small b) before i _ (stored .0) s)
 
-    pub entered-by-alter : Seated unsigned (λ (p : Point). p .minute) e before (Present i) → Rising before → (points″ : List Point) (len″ : ℕ) → len″ ≡ len′ → points″ ≡ set points′ i (altered (point-at points′ i) e) → Entered before e (take len″ points″)
+    pub entered-by-alter : Seated unsigned minute e before (Present i) → Rising before → (points″ : List Point) (len″ : ℕ) → len″ ≡ len′ → points″ ≡ set points′ i (altered (point-at points′ i) e) → Entered before e (take len″ points″)
     entered-by-alter seated up points″ len″ as-long changed =
         let within : i < len″ = omega (arith, stored .0, ap length (stored .1), length-take len′ points′) in
         let after = ap (take len″) changed ∙ take-set-lt len″ points′ i _ within in

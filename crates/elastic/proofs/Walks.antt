@@ -25,7 +25,7 @@ use Rattle.elastic.specs.Profile as profile
 use Rattle.elastic.specs.Profile.{latest, cmax, creq, minutes, has, overflow}
 use Rattle.elastic.specs.Points.{minutes-of, point-at, Rising, upto, Profiles}
 use Rattle.elastic.specs.declared.profile.Point.{Point}
-use Rattle.elastic.proofs.Points.{has-at}
+use Rattle.elastic.proofs.Keys.{key-has}
 use Rattle.elastic.proofs.Minutes.{rest, overflow-rest}
 
 -- over n minutes in which r trays are required and m can be used
@@ -188,7 +188,7 @@ module _ (C : ℕ) (Ω : List Lot) (ok : Lawful max-capacity Ω) where
   walks-from ps p = record {
     rising = p .rising;
     ahead = all-from-getD (λ q. 0 ≤ q .minute) ps nowhere (λ i h. omega arith);
-    inside = all-from-getD (λ q. q .minute ≤ latest Ω) ps nowhere (λ i h. minutes-inside max-capacity _ Ω (ok .each) (sym (p .at _) ∙ has-at ps i _ _ h refl));
+    inside = all-from-getD (λ q. q .minute ≤ latest Ω) ps nowhere (λ i h. minutes-inside max-capacity _ Ω (ok .each) (sym (p .at _) ∙ key-has (λ (p : Point). p .minute) ps i _ _ h refl));
     reached = omega arith;
     covers = λ t h. sym (p .at t);
     available = λ t h. omega (arith, ints, p .available t);

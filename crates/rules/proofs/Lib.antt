@@ -1,0 +1,3 @@
+pub mod ChosenLots
+pub mod CutRows
+pub mod OverloadSound

@@ -1,0 +1,3 @@
+pub mod Chosen
+pub mod Cuts
+pub mod Overload

@@ -1,0 +1,7 @@
+// The rules of the house.
+mod chosen;
+mod cuts;
+mod overload;
+
+pub use overload::Overload;
+pub use overload::OverloadRule;
