@@ -15,7 +15,7 @@ use Rattle.lots.specs.declared.Lot.{Lot}
 use Rattle.rules.specs.Chosen.{chosen}
 
 module _ (test : ℕ → Lot → Bool) where
-  abbrev starts : ℕ → List Lot → List ℕ → List ℕ
+  abbrev pub starts : ℕ → List Lot → List ℕ → List ℕ
   starts k [] ss = []
   starts k (x ∷ xs) [] = []
   starts k (x ∷ xs) (s ∷ ss) = cond (test k x) (s ∷ starts (suc k) xs ss) (starts (suc k) xs ss)
@@ -24,17 +24,17 @@ module _ (test : ℕ → Lot → Bool) where
   placed-cond true x s xs ss p q = (p, q)
   placed-cond false x s xs ss p q = q
 
-  chosen-placed : (k : ℕ) (T : List Lot) (ss : List ℕ) → Placed T ss → Placed (chosen test k T) (starts k T ss)
+  pub chosen-placed : (k : ℕ) (T : List Lot) (ss : List ℕ) → Placed T ss → Placed (chosen test k T) (starts k T ss)
   chosen-placed k [] [] p = tt
   chosen-placed k [] (s ∷ ss) p = absurd p
   chosen-placed k (x ∷ xs) [] p = absurd p
   chosen-placed k (x ∷ xs) (s ∷ ss) p = placed-cond (test k x) x s (chosen test (suc k) xs) (starts (suc k) xs ss) (p .0) (chosen-placed (suc k) xs ss (p .1))
 
-  load-cond : (t : ℕ) (b : Bool) (x : Lot) (s : ℕ) (xs : List Lot) (ss : List ℕ) → load t (cond b (x ∷ xs) xs) (cond b (s ∷ ss) ss) ≤ cond (spans s (s + x .p) t) (x .c) 0 + load t xs ss
+  pub load-cond : (t : ℕ) (b : Bool) (x : Lot) (s : ℕ) (xs : List Lot) (ss : List ℕ) → load t (cond b (x ∷ xs) xs) (cond b (s ∷ ss) ss) ≤ cond (spans s (s + x .p) t) (x .c) 0 + load t xs ss
   load-cond t true x s xs ss = omega arith
   load-cond t false x s xs ss = omega arith
 
-  chosen-load : (t k : ℕ) (T : List Lot) (ss : List ℕ) → Placed T ss → load t (chosen test k T) (starts k T ss) ≤ load t T ss
+  pub chosen-load : (t k : ℕ) (T : List Lot) (ss : List ℕ) → Placed T ss → load t (chosen test k T) (starts k T ss) ≤ load t T ss
   chosen-load t k [] ss p = omega arith
   chosen-load t k (x ∷ xs) [] p = absurd p
   chosen-load t k (x ∷ xs) (s ∷ ss) p =
@@ -46,7 +46,7 @@ module _ (test : ℕ → Lot → Bool) where
     within = λ t. omega (arith, chosen-load t 0 T ss (s .placed), s .within t);
   }
 
-  chosen-each : (P : Lot → Type 0) (k : ℕ) (T : List Lot) → All P T → All P (chosen test k T)
+  pub chosen-each : (P : Lot → Type 0) (k : ℕ) (T : List Lot) → All P T → All P (chosen test k T)
   chosen-each P k [] h = tt
   chosen-each P k (x ∷ xs) h = cond-both (test k x) (x ∷ chosen test (suc k) xs) (chosen test (suc k) xs) (All P) (λ e. (h .0, chosen-each P (suc k) xs (h .1))) (λ e. chosen-each P (suc k) xs (h .1))
 

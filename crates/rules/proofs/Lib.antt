@@ -1,3 +1,4 @@
 pub mod ChosenLots
 pub mod CutRows
 pub mod OverloadSound
+pub mod NotFirstSound

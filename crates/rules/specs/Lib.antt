@@ -1,3 +1,4 @@
 pub mod Chosen
 pub mod Cuts
 pub mod Overload
+pub mod NotFirst
