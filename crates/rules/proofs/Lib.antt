@@ -1,4 +1,10 @@
 pub mod ChosenLots
 pub mod CutRows
+pub mod Leasts
+pub mod Searches
+pub mod FixedParts
+pub mod Loads
+pub mod Raised
 pub mod OverloadSound
+pub mod TimeTables
 pub mod NotFirstSound

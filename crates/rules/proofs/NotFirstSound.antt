@@ -101,15 +101,15 @@ module _ (C : ℕ) (T : List Lot) (ok : Lawful C T) (ss : List ℕ) (s : Schedul
   -- up to the ect of i, its trays are free beside the cut
   beside : (v : ℕ) → v < ect (lot-at T i) → load v Ω us + lot-at T i .c ≤ C
   beside v k = elim (cases-lt v (getD ss i 0)) [
-    inl before ↦
-      let start = placed-start T ss i h (s .placed) in
-      let lot : Lawful-lot C (lot-at T i) = all-getD (Lawful-lot C) T i _ h (ok .each) in
-      let there = load-beside test (getD ss i 0) 0 i T ss (s .placed) h (subst (λ n. test n (lot-at T i) ≡ false) (sym (zero-add i)) (own-test T i t)) (runs-at (getD ss i 0) (lot-at T i .p) (getD ss i 0) (omega arith) (omega (arith, lot .runs))) in
-      omega (arith, there, s .within (getD ss i 0), load-later v (getD ss i 0) Ω us (omega arith) (least-below (getD ss i 0) Ω early) placed-Ω)
+    | inl before ↦
+        let start = placed-start T ss i h (s .placed) in
+        let lot : Lawful-lot C (lot-at T i) = all-getD (Lawful-lot C) T i _ h (ok .each) in
+        let there = load-beside test (getD ss i 0) 0 i T ss (s .placed) h (subst (λ n. test n (lot-at T i) ≡ false) (sym (zero-add i)) (own-test T i t)) (runs-at (getD ss i 0) (lot-at T i .p) (getD ss i 0) (omega arith) (omega (arith, lot .runs))) in
+        omega (arith, there, s .within (getD ss i 0), load-later v (getD ss i 0) Ω us (omega arith) (least-below (getD ss i 0) Ω early) placed-Ω)
     | inr after ↦
-      let start = placed-start T ss i h (s .placed) in
-      let there = load-beside test v 0 i T ss (s .placed) h (subst (λ n. test n (lot-at T i) ≡ false) (sym (zero-add i)) (own-test T i t)) (runs-at (getD ss i 0) (lot-at T i .p) v after (omega arith)) in
-      omega (arith, there, s .within v)
+        let start = placed-start T ss i h (s .placed) in
+        let there = load-beside test v 0 i T ss (s .placed) h (subst (λ n. test n (lot-at T i) ≡ false) (sym (zero-add i)) (own-test T i t)) (runs-at (getD ss i 0) (lot-at T i .p) v after (omega arith)) in
+        omega (arith, there, s .within v)
   ]
 
   abbrev guest : Lot
@@ -122,11 +122,13 @@ module _ (C : ℕ) (T : List Lot) (ok : Lawful C T) (ss : List ℕ) (s : Schedul
   scheduled : (b : Bool) → leb m (earliest Ω) ≡ b → (ws : List ℕ) × Schedule C (Ω ++ cond b [] (guest ∷ [])) ws
   scheduled true e = (us, subst (λ xs. Schedule C xs us) (sym (append-nil Ω)) (chosen-schedule test C T ss s))
   scheduled false e =
-      let later = leb-false m (earliest Ω) e in
-      (us ++ (earliest Ω ∷ []), record {
-        placed = placed-append Ω (guest ∷ []) us (earliest Ω ∷ []) placed-Ω ((omega arith, omega arith), tt);
-        within = λ v. omega (arith, load-append v Ω (guest ∷ []) us (earliest Ω ∷ []) placed-Ω, load-with v (spans (earliest Ω) (earliest Ω + (m - earliest Ω)) v) refl later);
-      })
+      let later = leb-false m (earliest Ω) e in (
+        us ++ (earliest Ω ∷ []),
+        record {
+          placed = placed-append Ω (guest ∷ []) us (earliest Ω ∷ []) placed-Ω ((omega arith, omega arith), tt);
+          within = λ v. omega (arith, load-append v Ω (guest ∷ []) us (earliest Ω ∷ []) placed-Ω, load-with v (spans (earliest Ω) (earliest Ω + (m - earliest Ω)) v) refl later);
+        },
+      )
 
   not-overfull : overfull C (with-stand-in T i t) ≡ true → ⊥
   not-overfull full =
@@ -136,7 +138,7 @@ module _ (C : ℕ) (T : List Lot) (ok : Lawful C T) (ss : List ℕ) (s : Schedul
 module _ (C : ℕ) (T : List Lot) (ok : Lawful C T) (ss : List ℕ) (s : Schedule C T ss) (i : ℕ) (h : i < length T) where
   bound-cond : (t : ℕ) (b : Bool) → (b ≡ true → overfull C (with-stand-in T i t) ≡ true) → cond b (least-ect (cut T i t)) 0 ≤ getD ss i 0
   bound-cond t true full = elim (cases-lt (getD ss i 0) (least-ect (cut T i t))) [
-    inl early ↦ absurd (not-overfull C T ok ss s i h t early (full refl))
+    | inl early ↦ absurd (not-overfull C T ok ss s i h t early (full refl))
     | inr late ↦ late
   ]
   bound-cond t false full = omega arith

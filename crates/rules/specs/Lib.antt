@@ -1,4 +1,5 @@
 pub mod Chosen
 pub mod Cuts
 pub mod Overload
+pub mod TimeTable
 pub mod NotFirst

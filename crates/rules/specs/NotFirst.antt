@@ -1,6 +1,6 @@
 -- A lot that cannot start before some others have ended.
 use Prim.Native.Nat.{ℕ, zero, suc, min, max, _-_}
-use mathlib.Core.Bool.{cond, not, _&&_}
+use mathlib.Core.Bool.{Bool, cond, not, _&&_}
 use mathlib.Core.List.{List, [], _∷_, _++_}
 use lib.Dec.{leb, ltb, eqb}
 use lib.ListN.{length}
@@ -11,9 +11,13 @@ use Rattle.rule.specs.Meanings.{Meaning}
 use Rattle.rule.specs.Raised.{raise}
 use Rattle.rules.specs.Chosen.{chosen, overfull}
 
+-- the lot x of the number k is not i, cannot be out by the est e of i, and must be out by the minute t
+abbrev pub in-cut : ℕ → ℕ → ℕ → ℕ → Lot → Bool
+in-cut i e t k x = not (eqb k i) && (ltb e (ect x) && leb (x .lct) t)
+
 -- the lots but i that must be out by the minute t and cannot be out by the est of i
 abbrev pub cut : List Lot → ℕ → ℕ → List Lot
-cut T i t = chosen (λ k x. not (eqb k i) && (ltb (lot-at T i .est) (ect x) && leb (x .lct) t)) 0 T
+cut T i t = chosen (in-cut i (lot-at T i .est) t) 0 T
 
 -- the least ect, and 0 without lots
 abbrev pub least-ect : List Lot → ℕ
