@@ -1,8 +1,8 @@
 -- What holds of a table holds of some of its lots.
-use Prim.Native.Nat.{ℕ, suc, _+_, _<_, _≤_}
+use Prim.Native.Nat.{ℕ, zero, suc, _+_, _<_, _≤_}
 use mathlib.Core.Bool.{Bool, true, false, cond}
 use mathlib.Core.List.{List, [], _∷_, _++_}
-use mathlib.Core.Path.{_≡_, refl, sym, ap, _∙_}
+use mathlib.Core.Path.{_≡_, refl, sym, ap, subst, _∙_}
 use native.Mathlib.Nat.{zero-add, add-zero}
 use native.Mathlib.Omega.{arith}
 use lib.ListN.{length, take}
@@ -53,6 +53,17 @@ module _ (test : ℕ → Lot → Bool) where
   pub chosen-few : (k : ℕ) (T : List Lot) → length (chosen test k T) ≤ length T
   chosen-few k [] = omega arith
   chosen-few k (x ∷ xs) = cond-both (test k x) (x ∷ chosen test (suc k) xs) (chosen test (suc k) xs) (λ ys. length ys ≤ suc (length xs)) (λ e. omega (arith, chosen-few (suc k) xs)) (λ e. omega (arith, chosen-few (suc k) xs))
+
+  -- a lot that is not chosen makes the chosen ones fewer
+  pub chosen-fewer : (k i : ℕ) (T : List Lot) → i < length T → test (k + i) (lot-at T i) ≡ false → length (chosen test k T) < length T
+  chosen-fewer k i [] h out = absurd (omega arith)
+  chosen-fewer k zero (x ∷ xs) h out =
+      let none = subst (λ n. test n x ≡ false) (add-zero k) out in
+      let left = ap (λ b. length (cond b (x ∷ chosen test (suc k) xs) (chosen test (suc k) xs))) none in
+      omega (arith, left, chosen-few (suc k) xs)
+  chosen-fewer k (suc i) (x ∷ xs) h out =
+      let rest = chosen-fewer (suc k) i xs (omega arith) (subst (λ n. test n (lot-at xs i) ≡ false) (omega arith) out) in
+      cond-both (test k x) (x ∷ chosen test (suc k) xs) (chosen test (suc k) xs) (λ ys. length ys < suc (length xs)) (λ e. omega (arith, rest)) (λ e. omega (arith, rest))
 
   pub chosen-lawful : (C : ℕ) (T : List Lot) → Lawful C T → Lawful C (chosen test 0 T)
   chosen-lawful C T ok = record {

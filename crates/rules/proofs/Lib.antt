@@ -8,3 +8,4 @@ pub mod Raised
 pub mod OverloadSound
 pub mod TimeTables
 pub mod NotFirstSound
+pub mod Bounds

@@ -9,10 +9,11 @@ use native.Mathlib.Omega.{arith}
 use lib.Dec.{leb, ltb, eqb}
 use lib.ListN.{length, getD}
 use Rattle.std.specs.shelf.Lists.{All}
-use Rattle.std.proofs.shelf.Elements.{all-getD}
-use Rattle.std.proofs.shelf.Lists.{append-nil}
+use Rattle.std.proofs.shelf.Elements.{all-getD, all-append}
+use Rattle.std.proofs.shelf.Lists.{append-nil, length-append}
 use Rattle.std.proofs.shelf.Tests.{eq-eqb, cases-lt, and-parts, ltb-true, leb-false}
 use Rattle.std.proofs.shelf.Ways.{tells}
+use Rattle.lots.specs.Limits.{horizon}
 use Rattle.lots.specs.Schedules.{spans, load, Placed, Schedule}
 use Rattle.lots.specs.Tables.{ect, lot-at, Lawful-lot, Lawful}
 use Rattle.lots.specs.declared.Lot.{Lot}
@@ -21,8 +22,8 @@ use Rattle.elastic.proofs.Soundness.{overflow-of-schedulable}
 use Rattle.rule.specs.Meanings.{Sound}
 use Rattle.rule.proofs.Raises.{raise-lawful, raise-narrows, raise-keeps, raise-dies}
 use Rattle.rules.specs.Chosen.{chosen, overfull}
-use Rattle.rules.specs.NotFirst.{cut, least-ect, with-stand-in, bound-by, greatest-bound, not-first}
-use Rattle.rules.proofs.ChosenLots.{starts, load-cond, chosen-placed, chosen-load, chosen-schedule}
+use Rattle.rules.specs.NotFirst.{in-cut, cut, least-ect, with-stand-in, bound-by, greatest-bound, not-first}
+use Rattle.rules.proofs.ChosenLots.{starts, load-cond, chosen-placed, chosen-load, chosen-schedule, chosen-fewer, chosen-lawful}
 
 -- two lists of lots, each with its starts
 placed-append : (xs ys : List Lot) (ss us : List ℕ) → Placed xs ss → Placed ys us → Placed (xs ++ ys) (ss ++ us)
@@ -159,3 +160,51 @@ not-first-sound = record {
   keeps = λ C T ok. raise-keeps (λ i. greatest-bound C T i (length T)) C T ok (λ ss s i h. greatest-kept C T ok ss s i h (length T));
   dies-rightly = λ C T ok. raise-dies (λ i. greatest-bound C T i (length T)) C T ok (λ ss s i h. greatest-kept C T ok ss s i h (length T));
 }
+
+-- the cut with its stand-in is a lawful table
+module _ (C : ℕ) (T : List Lot) (ok : Lawful C T) (i : ℕ) (h : i < length T) (t : ℕ) where
+  out-of-cut : in-cut i (lot-at T i .est) t (0 + i) (lot-at T i) ≡ false
+  out-of-cut = subst (λ n. in-cut i (lot-at T i .est) t n (lot-at T i) ≡ false) (sym (zero-add i)) (own-test T i t)
+
+  pub cut-fewer : length (cut T i t) < length T
+  cut-fewer = chosen-fewer (in-cut i (lot-at T i .est) t) 0 i T h out-of-cut
+
+  lot-lawful : Lawful-lot C (lot-at T i)
+  lot-lawful = all-getD (Lawful-lot C) T i _ h (ok .each)
+
+  pub lot-ends : ect (lot-at T i) ≤ horizon
+  lot-ends = omega (arith, lot-lawful .has-time, lot-lawful .in-week)
+
+  cut-lawful : Lawful C (cut T i t)
+  cut-lawful = chosen-lawful (in-cut i (lot-at T i .est) t) C T ok
+
+  least-in-week : (Ω : List Lot) → All (Lawful-lot C) Ω → least-ect Ω ≤ horizon
+  least-in-week [] a = omega arith
+  least-in-week (x ∷ []) a = omega (arith, a .0 .has-time, a .0 .in-week)
+  least-in-week (x ∷ (y ∷ ys)) a = omega (arith, a .0 .has-time, a .0 .in-week)
+
+  pub cut-least : least-ect (cut T i t) ≤ horizon
+  cut-least = least-in-week (cut T i t) (cut-lawful .each)
+
+  stand-lawful : (m : ℕ) (b : Bool) → m ≤ horizon → leb m (earliest (cut T i t)) ≡ b → Lawful C (cut T i t ++ cond b [] (record { est = earliest (cut T i t); lct = m; p = m - earliest (cut T i t); c = lot-at T i .c } ∷ []))
+  stand-lawful m true k e = subst (Lawful C) (sym (append-nil (cut T i t))) cut-lawful
+  stand-lawful m false k e =
+      let later = leb-false m (earliest (cut T i t)) e in
+      record {
+        some-trays = ok .some-trays;
+        few-trays = ok .few-trays;
+        few-lots = omega (arith, length-append (cut T i t) (record { est = earliest (cut T i t); lct = m; p = m - earliest (cut T i t); c = lot-at T i .c } ∷ []), cut-fewer, ok .few-lots);
+        each = all-append (Lawful-lot C) (cut T i t) _ (cut-lawful .each) (
+          record {
+            runs = omega arith;
+            takes-trays = lot-lawful .takes-trays;
+            has-trays = lot-lawful .has-trays;
+            has-time = omega arith;
+            in-week = k;
+          },
+          tt,
+        );
+      }
+
+  pub with-stand-in-lawful : Lawful C (with-stand-in T i t)
+  with-stand-in-lawful = stand-lawful (min (ect (lot-at T i)) t) (leb (min (ect (lot-at T i)) t) (earliest (cut T i t))) (omega (arith, lot-ends)) refl

@@ -6,10 +6,11 @@ use lib.Dec.{leb, ltb, eqb}
 use lib.ListN.{length}
 use Rattle.lots.specs.Tables.{ect, lot-at}
 use Rattle.lots.specs.declared.Lot.{Lot}
-use Rattle.elastic.specs.Profile.{earliest}
+use Rattle.elastic.specs.Profile.{earliest, has}
 use Rattle.rule.specs.Meanings.{Meaning}
 use Rattle.rule.specs.Raised.{raise}
 use Rattle.rules.specs.Chosen.{chosen, overfull}
+use Rattle.rules.specs.Cuts.{ends-of}
 
 -- the lot x of the number k is not i, cannot be out by the est e of i, and must be out by the minute t
 abbrev pub in-cut : ℕ → ℕ → ℕ → ℕ → Lot → Bool
@@ -46,3 +47,12 @@ greatest-bound C T i (suc n) = max (bound-by C T i n) (greatest-bound C T i n)
 
 abbrev pub not-first : Meaning
 not-first C T = raise (λ i. greatest-bound C T i (length T)) T
+
+-- the bound that the latest end t puts on the est of i, by whichever lot of the cut has it
+abbrev pub end-bound : ℕ → List Lot → ℕ → ℕ → ℕ
+end-bound C T i t = cond (has t (ends-of (cut T i t)) && overfull C (with-stand-in T i t)) (least-ect (cut T i t)) 0
+
+-- the greatest of those that the latest ends ts put
+abbrev pub greatest-end-bound : ℕ → List Lot → ℕ → List ℕ → ℕ
+greatest-end-bound C T i [] = 0
+greatest-end-bound C T i (t ∷ ts) = max (end-bound C T i t) (greatest-end-bound C T i ts)

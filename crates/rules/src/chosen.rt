@@ -1,7 +1,7 @@
 // Some of the lots of a table, gathered to be looked at as a list of their own.
 ghost use mathlib.Core.List.{[], _∷_, _++_};
 ghost use mathlib.Core.Path.{_≡_};
-ghost use Prim.Native.Nat.{_+_, _<_};
+ghost use Prim.Native.Nat.{_+_, _<_, _≤_};
 ghost use Rattle.lots.specs.Limits.{max-lots};
 ghost use Rattle.lots.specs.Tables.{Lawful};
 ghost use Rattle.rules.specs.Chosen.{held, overfull as more-than-fits};
@@ -40,12 +40,19 @@ impl Chosen {
         self.len += 1;
     }
 
+    pub(crate) fn as_slice(&self) -> &[Lot]
+        requires { ⌜ now self .len ≤ max-lots ⌝ }
+        ensures { λ r. ⌜ now r ≡ held (now (self .entry)) ⌝ }
+    {
+        &self.lots[0..self.len]
+    }
+
     // Whether more work is left over than fits the windows.
     pub(crate) fn is_overfull(&self, capacity: u16) -> bool
-        requires { ⌜ Lawful capacity (held (now self)) ⌝ ∗ ⌜ now self .len < max-lots + 1 ⌝ }
+        requires { ⌜ Lawful capacity (held (now self)) ⌝ ∗ ⌜ now self .len ≤ max-lots ⌝ }
         ensures { λ r. ⌜ r ≡ more-than-fits capacity (held (now (self .entry))) ⌝ }
     {
-        match overflow(capacity, &self.lots[0..self.len]) {
+        match overflow(capacity, self.as_slice()) {
             Ok((left, _points)) => left > 0,
             Err(_) => unreachable(),
         }

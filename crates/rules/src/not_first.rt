@@ -1,17 +1,25 @@
 // Raises the earliest start of a lot that cannot start before some others have ended.
-ghost use mathlib.Core.Bool.{Bool, not, _&&_};
+ghost use mathlib.Core.Bool.{_&&_};
+ghost use mathlib.Core.List.{_++_};
 ghost use mathlib.Core.Path.{_≡_};
-ghost use Prim.Native.Nat.{_+_, _<_, _≤_};
-ghost use lib.Dec.{leb, ltb, eqb};
-ghost use lib.ListN.{length};
-ghost use Rattle.lots.specs.Limits.{max-lots};
-ghost use Rattle.lots.specs.Tables.{ect as earliest-end, lot-at, Lawful};
+ghost use Prim.Native.Nat.{ℕ, min, _+_, _<_, _≤_};
+ghost use lib.ListN.{length, getD};
+ghost use Rattle.lots.specs.Limits.{horizon, max-lots};
+ghost use Rattle.lots.specs.Tables.{ect as earliest-end, Lawful};
 ghost use Rattle.elastic.specs.Profile.{earliest, has};
 ghost use Rattle.rules.specs.Chosen.{held};
-ghost use Rattle.rules.specs.Cuts.{ends-of};
-ghost use Rattle.rules.specs.NotFirst.{in-cut, cut as the-cut, least-ect};
+ghost use Rattle.rules.specs.Cuts.{ends-of, cut-ends};
+ghost use Rattle.rules.specs.NotFirst.{in-cut, cut as the-cut, least-ect, stand-in, end-bound, greatest-end-bound, not-first as starts-after-some};
 use crate::chosen::Chosen;
+use crate::cuts::Cut;
+use crate::cuts::Cuts;
 use lots::Lot;
+use lots::MAX_LOTS;
+use lots::Refusal;
+use lots::is_lawful;
+use rule::Rule;
+use rule::Verdict;
+use rule::raise;
 
 // Whether a lot is in the cut of the lot i up to a minute.
 fn is_in_cut(number: usize, lot: &Lot, i: usize, est: u16, minute: u16) -> bool
@@ -26,6 +34,7 @@ fn cut_of(lots: &[Lot], i: usize, minute: u16) -> Chosen
     requires lot { ⌜ i < length (now lots) ⌝ }
     ensures cut { λ r. ⌜ held r ≡ the-cut (now (lots .entry)) i minute ⌝ }
     ensures few { λ r. ⌜ r .len ≤ max-lots ⌝ }
+    ensures count { λ r. ⌜ r .len ≡ length (held r) ⌝ }
 {
     let est = lots[i].est;
     let mut cut = Chosen::none();
@@ -75,4 +84,83 @@ fn has_end(lots: &[Lot], minute: u16) -> bool
         }
     }
     false
+}
+
+// Adds what stands in for the lot beside the cut.
+fn add_stand_in(cut: &mut Chosen, lot: &Lot, minute: u16)
+    requires few { ⌜ now cut .len < max-lots ⌝ }
+    requires fits { ⌜ earliest-end (now lot) ≤ horizon ⌝ }
+    ensures added { λ _. ⌜ held (now (cut .exit)) ≡ held (now (cut .entry)) ++ stand-in (now (lot .entry)) (min (earliest-end (now (lot .entry))) minute) (held (now (cut .entry))) ⌝ }
+    ensures few { λ _. ⌜ now (cut .exit) .len ≤ max-lots ⌝ }
+{
+    let first = earliest_start(cut.as_slice());
+    let end = (lot.est + lot.p).min(minute);
+    if first < end {
+        cut.push(Lot {
+            est: first,
+            lct: end,
+            p: end - first,
+            c: lot.c,
+        });
+    }
+}
+
+// The bound that a latest end puts on the est of the lot i, or 0.
+fn bound_at(capacity: u16, lots: &[Lot], i: usize, minute: u16) -> u16
+    requires lawful { ⌜ Lawful capacity (now lots) ⌝ }
+    requires lot { ⌜ i < length (now lots) ⌝ }
+    ensures { λ r. ⌜ r ≡ end-bound capacity (now (lots .entry)) i minute ⌝ }
+{
+    let mut cut = cut_of(lots, i, minute);
+    if !has_end(cut.as_slice(), minute) {
+        return 0;
+    }
+    let least = least_end(cut.as_slice());
+    add_stand_in(&mut cut, &lots[i], minute);
+    if cut.is_overfull(capacity) {
+        least as u16
+    } else {
+        0
+    }
+}
+
+// The greatest bound that the latest ends of the cuts put on the est of the lot i, or 0.
+fn greatest_bound(capacity: u16, lots: &[Lot], i: usize, cuts: &[Cut]) -> u16
+    requires lawful { ⌜ Lawful capacity (now lots) ⌝ }
+    requires lot { ⌜ i < length (now lots) ⌝ }
+    ensures { λ r. ⌜ r ≡ greatest-end-bound capacity (now (lots .entry)) i (cut-ends (now (cuts .entry))) ⌝ }
+{
+    let mut bound = 0;
+    for cut in cuts {
+        bound = bound_at(capacity, lots, i, cut.lct).max(bound);
+    }
+    bound
+}
+
+// The new bounds of the lots, by number.
+fn bounds_of(capacity: u16, lots: &[Lot], cuts: &[Cut]) -> [u16; MAX_LOTS]
+    requires { ⌜ Lawful capacity (now lots) ⌝ }
+    ensures { λ r. ⌜ ((i : ℕ) → i < length (now (lots .entry)) → getD r i 0 ≡ greatest-end-bound capacity (now (lots .entry)) i (cut-ends (now (cuts .entry)))) ⌝ }
+{
+    let mut bounds = [0; MAX_LOTS];
+    for (number, _lot) in lots.iter().enumerate() {
+        bounds[number] = greatest_bound(capacity, lots, number, cuts);
+    }
+    bounds
+}
+
+#[derive(Clone, Copy, Debug)]
+pub struct NotFirst;
+
+pub impl Rule for NotFirst as NotFirstRule {
+    ghost meaning = { λ _. starts-after-some };
+
+    fn apply(&self, capacity: u16, lots: &mut [Lot]) -> Result<Verdict, Refusal> {
+        if !is_lawful(capacity, lots) {
+            return Err(Refusal::Unlawful);
+        }
+        let cuts = Cuts::of(lots);
+        let bounds = bounds_of(capacity, lots, &cuts.cuts[0..cuts.len]);
+        Ok(raise(lots, &bounds))
+    }
 }

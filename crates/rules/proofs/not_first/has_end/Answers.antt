@@ -1,7 +1,6 @@
 use mathlib.Core.Bool.{_||_}
 use mathlib.Core.Path.{sym, ap, _∙_}
 use mathlib.Core.List.{List}
-use lib.Dec.{eqb}
 use lib.ListN.{drop}
 use Prim.Native.Nat.{_+_}
 use Rattle.std.proofs.shelf.Lists.{at-drop-more, at-drop-all}
