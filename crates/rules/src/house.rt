@@ -48,3 +48,45 @@ pub fn apply_house(capacity: u16, lots: &mut [Lot]) -> Result<Verdict, Refusal>
 {
     house().apply(capacity, lots)
 }
+
+#[cfg(test)]
+mod tests {
+    use super::*;
+    use lots::LotDebug;
+    use lots::LotPartialEq;
+    use lots::RefusalDebug;
+    use lots::RefusalPartialEq;
+    use rule::VerdictDebug;
+    use rule::VerdictPartialEq;
+    use std::test::*;
+
+    const fn lot(est: u16, lct: u16, p: u16, c: u16) -> Lot {
+        Lot { est, lct, p, c }
+    }
+
+    #[test]
+    fn the_pile_moves_both_ends() -> Result<(), Fail> {
+        let mut lots = [
+            lot(254, 260, 4, 3),
+            lot(259, 261, 1, 2),
+            lot(259, 260, 1, 3),
+        ];
+        check_eq(apply_house(3, &mut lots), Ok(Verdict::Moved))?;
+        check_eq(
+            lots,
+            [
+                lot(254, 259, 4, 3),
+                lot(260, 261, 1, 2),
+                lot(259, 260, 1, 3),
+            ],
+        )
+    }
+
+    #[test]
+    fn a_dead_pile_leaves_the_table() -> Result<(), Fail> {
+        let mut lots = [lot(4, 6, 2, 2), lot(0, 6, 5, 1)];
+        check_eq(apply_house(2, &mut lots), Ok(Verdict::Dead))?;
+        check_eq(apply_house(1, &mut lots), Err(Refusal::Unlawful))?;
+        check_eq(lots, [lot(4, 6, 2, 2), lot(0, 6, 5, 1)])
+    }
+}

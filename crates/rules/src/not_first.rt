@@ -164,3 +164,48 @@ pub impl Rule for NotFirst as NotFirstRule {
         Ok(raise(lots, &bounds))
     }
 }
+
+#[cfg(test)]
+mod tests {
+    use super::*;
+    use lots::LotDebug;
+    use lots::LotPartialEq;
+    use lots::RefusalDebug;
+    use lots::RefusalPartialEq;
+    use rule::Turned;
+    use rule::TurnedRule;
+    use rule::VerdictDebug;
+    use rule::VerdictPartialEq;
+    use std::test::*;
+
+    const fn lot(est: u16, lct: u16, p: u16, c: u16) -> Lot {
+        Lot { est, lct, p, c }
+    }
+
+    #[test]
+    fn a_lot_that_cannot_run_before_another_starts_after_it() -> Result<(), Fail> {
+        let mut lots = [lot(0, 5, 3, 1), lot(0, 9, 3, 1)];
+        check_eq(NotFirst.apply(1, &mut lots), Ok(Verdict::Moved))?;
+        check_eq(lots, [lot(0, 5, 3, 1), lot(3, 9, 3, 1)])?;
+        check_eq(NotFirst.apply(1, &mut lots), Ok(Verdict::Still))?;
+        check_eq(lots, [lot(0, 5, 3, 1), lot(3, 9, 3, 1)])
+    }
+
+    #[test]
+    fn a_lot_that_can_run_before_another_stays() -> Result<(), Fail> {
+        let mut lots = [lot(0, 5, 3, 1), lot(0, 9, 2, 1)];
+        check_eq(NotFirst.apply(1, &mut lots), Ok(Verdict::Still))?;
+        check_eq(NotFirst.apply(0, &mut lots), Err(Refusal::Unlawful))?;
+        check_eq(lots, [lot(0, 5, 3, 1), lot(0, 9, 2, 1)])
+    }
+
+    #[test]
+    fn turned_it_lowers_the_latest_end() -> Result<(), Fail> {
+        let mut lots = [lot(10075, 10080, 3, 1), lot(10071, 10080, 3, 1)];
+        check_eq(
+            Turned { rule: NotFirst }.apply(1, &mut lots),
+            Ok(Verdict::Moved),
+        )?;
+        check_eq(lots, [lot(10075, 10080, 3, 1), lot(10071, 10077, 3, 1)])
+    }
+}

@@ -61,3 +61,37 @@ pub impl Rule for Overload as OverloadRule {
         }
     }
 }
+
+#[cfg(test)]
+mod tests {
+    use super::*;
+    use lots::LotDebug;
+    use lots::LotPartialEq;
+    use lots::RefusalDebug;
+    use lots::RefusalPartialEq;
+    use rule::VerdictDebug;
+    use rule::VerdictPartialEq;
+    use std::test::*;
+
+    const fn lot(est: u16, lct: u16, p: u16, c: u16) -> Lot {
+        Lot { est, lct, p, c }
+    }
+
+    #[test]
+    fn too_much_by_a_latest_end_is_dead() -> Result<(), Fail> {
+        let mut lots = [lot(4, 6, 2, 2), lot(0, 6, 5, 1)];
+        check_eq(Overload.apply(2, &mut lots), Ok(Verdict::Dead))?;
+        check_eq(lots, [lot(4, 6, 2, 2), lot(0, 6, 5, 1)])?;
+        lots[1].p = 4;
+        check_eq(Overload.apply(2, &mut lots), Ok(Verdict::Still))?;
+        check_eq(lots, [lot(4, 6, 2, 2), lot(0, 6, 4, 1)])
+    }
+
+    #[test]
+    fn what_is_due_later_does_not_count() -> Result<(), Fail> {
+        let mut lots = [lot(0, 1, 1, 2), lot(0, 3, 3, 1), lot(1, 3, 1, 1)];
+        check_eq(Overload.apply(2, &mut lots), Ok(Verdict::Still))?;
+        check_eq(Overload.apply(1, &mut lots), Err(Refusal::Unlawful))?;
+        check_eq(lots, [lot(0, 1, 1, 2), lot(0, 3, 3, 1), lot(1, 3, 1, 1)])
+    }
+}
