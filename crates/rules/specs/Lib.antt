@@ -3,3 +3,4 @@ pub mod Cuts
 pub mod Overload
 pub mod TimeTable
 pub mod NotFirst
+pub mod House

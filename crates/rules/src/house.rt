@@ -1,10 +1,5 @@
 // The pile that the house uses.
-ghost use Rattle.rule.specs.Meanings.{Applied};
-ghost use Rattle.rule.specs.Both.{both};
-ghost use Rattle.rule.specs.Turned.{turned};
-ghost use Rattle.rules.specs.NotFirst.{not-first};
-ghost use Rattle.rules.specs.Overload.{overload};
-ghost use Rattle.rules.specs.TimeTable.{time-table};
+ghost use Rattle.rules.specs.House.{house as the-house};
 use crate::NotFirst;
 use crate::NotFirstRule;
 use crate::Overload;
@@ -21,12 +16,12 @@ use rule::TurnedRule;
 use rule::Verdict;
 
 // Overload, time-table, not-first, turned time-table, turned not-first, in this order.
-pub type House = Both<
+type Pile = Both<
     Overload,
     Both<TimeTable, Both<NotFirst, Both<Turned<TimeTable>, Turned<NotFirst>>>>,
 >;
 
-pub fn house() -> House {
+fn pile() -> Pile {
     Both {
         first: Overload,
         second: Both {
@@ -42,11 +37,15 @@ pub fn house() -> House {
     }
 }
 
-// Applies the house pile.
-pub fn apply_house(capacity: u16, lots: &mut [Lot]) -> Result<Verdict, Refusal>
-    ensures { λ r. ⌜ Applied (both overload (both time-table (both not-first (both (turned time-table) (turned not-first))))) capacity (now (lots .entry)) (now (lots .exit)) r ⌝ }
-{
-    house().apply(capacity, lots)
+#[derive(Clone, Copy, Debug)]
+pub struct House;
+
+pub impl Rule for House as HouseRule {
+    ghost meaning = { λ _. the-house };
+
+    fn apply(&self, capacity: u16, lots: &mut [Lot]) -> Result<Verdict, Refusal> {
+        pile().apply(capacity, lots)
+    }
 }
 
 #[cfg(test)]
@@ -71,7 +70,7 @@ mod tests {
             lot(259, 261, 1, 2),
             lot(259, 260, 1, 3),
         ];
-        check_eq(apply_house(3, &mut lots), Ok(Verdict::Moved))?;
+        check_eq(House.apply(3, &mut lots), Ok(Verdict::Moved))?;
         check_eq(
             lots,
             [
@@ -85,8 +84,8 @@ mod tests {
     #[test]
     fn a_dead_pile_leaves_the_table() -> Result<(), Fail> {
         let mut lots = [lot(4, 6, 2, 2), lot(0, 6, 5, 1)];
-        check_eq(apply_house(2, &mut lots), Ok(Verdict::Dead))?;
-        check_eq(apply_house(1, &mut lots), Err(Refusal::Unlawful))?;
+        check_eq(House.apply(2, &mut lots), Ok(Verdict::Dead))?;
+        check_eq(House.apply(1, &mut lots), Err(Refusal::Unlawful))?;
         check_eq(lots, [lot(4, 6, 2, 2), lot(0, 6, 5, 1)])
     }
 }

@@ -7,7 +7,7 @@ mod overload;
 mod time_table;
 
 pub use house::House;
-pub use house::apply_house;
+pub use house::HouseRule;
 pub use not_first::NotFirst;
 pub use not_first::NotFirstRule;
 pub use overload::Overload;
