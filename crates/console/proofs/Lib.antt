@@ -4,4 +4,6 @@ mod Numbers
 mod Numerals
 mod Pairs
 mod Pieces
+mod PileSound
+mod Showing
 mod Texts

@@ -2,6 +2,7 @@
 use mathlib.Core.Path.{_≡_, refl, sym, subst}
 use mathlib.Core.Bool.{Bool, true, false, cond}
 use mathlib.Core.List.{List, [], _∷_}
+use mathlib.Core.Logic.{inl, inr}
 use Prim.Native.Nat.{ℕ, suc, _<_}
 use native.Mathlib.Omega.{arith}
 use borrow.Author.Needs.{needs}
@@ -15,7 +16,10 @@ use Rattle.std.proofs.shelf.Numerals.{tells-allDigits}
 use Rattle.std.proofs.shelf.Tests.{eqb-true}
 use Rattle.std.proofs.shelf.Text.{utf8-from-ascii}
 use Rattle.lots.specs.declared.Lot.{Lot}
-use Rattle.console.specs.Lines.{Overflow-call, Known}
+use Rattle.console.specs.Lines.{Table, Overflow-call, Rule-call, Known}
+use Rattle.console.specs.Piles.{pile-word}
+use Rattle.console.specs.declared.piles.Pile.{Pile}
+use Rattle.console.specs.declared.piles.Pile.the-variants as pile
 use Rattle.console.specs.Syntax.{Each, Number, Cell, pieces, onto-first, space, comma}
 
 digits-ascii : (ds : List ℕ) → allDigits ds ≡ true → Ascii ds
@@ -44,13 +48,33 @@ ascii-from-each R ascii (w ∷ ws) (y ∷ ys) h = (ascii w y (h .0), ascii-from-
 cell-ascii : (w : List ℕ) (x : Lot) → Cell w x → Ascii w
 cell-ascii w x is = ascii-from-pieces comma w (omega arith) (ascii-from-each Number number-ascii (pieces comma w) _ is)
 
-name-ascii : Ascii (codes "overflow")
-name-ascii = ascii-from-all (codes "overflow") (search needs)
+pile-ascii : (p : Pile) → Ascii (pile-word p)
+pile-ascii pile.Idle = ascii-from-all (pile-word pile.Idle) (search needs)
+pile-ascii pile.Overload = ascii-from-all (pile-word pile.Overload) (search needs)
+pile-ascii pile.TimeTable = ascii-from-all (pile-word pile.TimeTable) (search needs)
+pile-ascii pile.NotFirst = ascii-from-all (pile-word pile.NotFirst) (search needs)
+pile-ascii pile.TurnedIdle = ascii-from-all (pile-word pile.TurnedIdle) (search needs)
+pile-ascii pile.TurnedOverload = ascii-from-all (pile-word pile.TurnedOverload) (search needs)
+pile-ascii pile.TurnedTimeTable = ascii-from-all (pile-word pile.TurnedTimeTable) (search needs)
+pile-ascii pile.TurnedNotFirst = ascii-from-all (pile-word pile.TurnedNotFirst) (search needs)
+pile-ascii pile.House = ascii-from-all (pile-word pile.House) (search needs)
+
+table-ascii : (words : List (List ℕ)) (C : ℕ) (T : List Lot) → Table words C T → All Ascii words
+table-ascii [] C T is = tt
+table-ascii (word ∷ words) C T is = (number-ascii word C (is .0), ascii-from-each Cell cell-ascii words T (is .1))
 
 overflow-ascii : (words : List (List ℕ)) (C : ℕ) (T : List Lot) → Overflow-call words C T → All Ascii words
 overflow-ascii [] C T is = tt
-overflow-ascii (name ∷ []) C T is = (subst Ascii (sym (is .0)) name-ascii, tt)
-overflow-ascii (name ∷ word ∷ words) C T is = (subst Ascii (sym (is .0)) name-ascii, (number-ascii word C (is .1 .0), ascii-from-each Cell cell-ascii words T (is .1 .1)))
+overflow-ascii (name ∷ words) C T is = (subst Ascii (sym (is .0)) (ascii-from-all (codes "overflow") (search needs)), table-ascii words C T (is .1))
+
+rule-ascii : (words : List (List ℕ)) (p : Pile) (C : ℕ) (T : List Lot) → Rule-call words p C T → All Ascii words
+rule-ascii [] p C T is = tt
+rule-ascii (name ∷ []) p C T is = (subst Ascii (sym (is .0)) (ascii-from-all (codes "rule") (search needs)), tt)
+rule-ascii (name ∷ word ∷ words) p C T is = (subst Ascii (sym (is .0)) (ascii-from-all (codes "rule") (search needs)), (subst Ascii (sym (is .1)) (pile-ascii p), table-ascii words C T (is .2)))
+
+known-ascii : (words : List (List ℕ)) → Known words → All Ascii words
+known-ascii words (inl asked) = overflow-ascii words (asked .0) (asked .1) (asked .2)
+known-ascii words (inr asked) = rule-ascii words (asked .0) (asked .1) (asked .2) (asked .3)
 
 pub text-from-known : (line : List ℕ) → Known (pieces space line) → Utf8 line
-text-from-known line known = utf8-from-ascii line (ascii-from-pieces space line (omega arith) (overflow-ascii (pieces space line) (known .0) (known .1) (known .2)))
+text-from-known line known = utf8-from-ascii line (ascii-from-pieces space line (omega arith) (known-ascii (pieces space line) known))

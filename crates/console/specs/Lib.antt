@@ -1,3 +1,4 @@
 pub mod Lines
 pub mod Shown
 pub mod Syntax
+pub mod Piles

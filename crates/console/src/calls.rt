@@ -8,8 +8,11 @@ ghost use Rattle.console.specs.Syntax.{pieces, space, Cut-at-byte, to-come};
 use crate::answers::Answer;
 use crate::answers::Fault;
 use crate::answers::FaultFromRefusal;
+use crate::piles::PileRule;
 use crate::words::Parts;
+use crate::words::next_pile;
 use crate::words::table;
+use rule::Rule;
 use std::alloc::AllocError;
 use std::alloc::Global;
 use std::str::from_utf8;
@@ -42,6 +45,7 @@ fn call(heap: Global, line: &[u8]) -> Result<Answer, Fault>
     };
     match name {
         "overflow" => overflow(heap, words),
+        "rule" => rule(heap, words),
         _ => Err(Fault::Unknown),
     }
 }
@@ -54,4 +58,17 @@ fn overflow(heap: Global, words: Parts<'_>) -> Result<Answer, Fault>
     let (capacity, lots) = table(heap, words)?;
     let (left, points) = elastic::overflow(capacity, lots.as_slice())?;
     Ok(Answer::Overflow { left, points })
+}
+
+// `rule PILE C CELL..`
+fn rule(heap: Global, mut words: Parts<'_>) -> Result<Answer, Fault>
+    requires { ⌜ Cut-at-byte words ⌝ }
+    ensures { λ r. ⌜ Cases r (Answers (codes "rule" ∷ to-come (words .entry))) (Faults (codes "rule" ∷ to-come (words .entry))) ⌝ }
+{
+    let Some(pile) = next_pile(&mut words) else {
+        return Err(Fault::Unknown);
+    };
+    let (capacity, mut lots) = table(heap, words)?;
+    let verdict = pile.apply(capacity, lots.as_mut_slice())?;
+    Ok(Answer::Applied { verdict, lots })
 }

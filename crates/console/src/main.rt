@@ -7,6 +7,7 @@ use std::io::BufReader;
 
 mod answers;
 mod calls;
+mod piles;
 mod words;
 
 fn run(rt: &LibcRuntime) -> Result<(), AnyError> {

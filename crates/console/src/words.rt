@@ -7,9 +7,12 @@ ghost use Rattle.std.specs.Of.Vec.{vec-items};
 ghost use Rattle.std.specs.Parts.{split-callee};
 ghost use Rattle.std.specs.Results.{Cases};
 ghost use Rattle.console.specs.Lines.{Unread, Table};
+ghost use Rattle.console.specs.Piles.{pile-word};
 ghost use Rattle.console.specs.Syntax.{Reads, Each, Number, Cell, Cut-at-byte, to-come};
 use crate::answers::Fault;
 use crate::answers::FaultFromRefused;
+use crate::piles::Pile;
+use crate::piles::pile_named;
 use lots::Lot;
 use std::alloc::Global;
 use std::str::Split;
@@ -36,6 +39,16 @@ fn next_number(parts: &mut Parts<'_>) -> Option<u16>
     ensures same { λ _. ⌜ split-callee (now (parts .exit)) ≡ split-callee (now (parts .entry)) ⌝ }
 {
     number(parts.next()?)
+}
+
+// The pile that the next part names.
+pub fn next_pile(parts: &mut Parts<'_>) -> Option<Pile>
+    requires { ⌜ Cut-at-byte (now parts) ⌝ }
+    ensures answer { λ r. ⌜ Reads (λ p. getD (to-come (now (parts .entry))) 0 [] ≡ pile-word p) r ⌝ }
+    ensures others { λ _. ⌜ to-come (now (parts .exit)) ≡ drop 1 (to-come (now (parts .entry))) ⌝ }
+    ensures same { λ _. ⌜ split-callee (now (parts .exit)) ≡ split-callee (now (parts .entry)) ⌝ }
+{
+    pile_named(parts.next()?)
 }
 
 // The numbers that the parts write, where there are just `N` of them.

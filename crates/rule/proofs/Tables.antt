@@ -3,7 +3,8 @@ use mathlib.Core.List.{List, [], _∷_}
 use mathlib.Core.Path.{_≡_, refl, ap₂, _∙_}
 use native.Mathlib.Omega.{arith}
 use Rattle.std.specs.shelf.Lists.{Each}
-use Rattle.rule.specs.Meanings.{Same-work, Narrower}
+use Rattle.rule.specs.Idle.{idle}
+use Rattle.rule.specs.Meanings.{Same-work, Narrower, Sound}
 use Rattle.lots.specs.declared.Lot.{Lot}
 
 pub each-refl : {X : Type 0} (R : X → X → Type 0) → ((x : X) → R x x) → (xs : List X) → Each R xs xs
@@ -40,3 +41,11 @@ narrower-antisym [] (y ∷ ys) w n m = absurd w
 narrower-antisym (x ∷ xs) [] w n m = absurd w
 narrower-antisym (x ∷ xs) (y ∷ ys) w n m =
     ap₂ _∷_ (lot-path y x (omega arith) (omega arith) (w .0 .0) (w .0 .1)) (narrower-antisym xs ys (w .1) (n .1) (m .1))
+
+pub idle-sound : Sound idle
+idle-sound = record {
+  lawful = λ C T ok. (ok, same-work-refl T);
+  narrows = λ C T ok. narrower-refl T;
+  keeps = λ C T ok ss s. s;
+  dies-rightly = λ C T ok. tt;
+}

@@ -9,3 +9,4 @@ pub mod OverloadSound
 pub mod TimeTables
 pub mod NotFirstSound
 pub mod Bounds
+pub mod HouseSound

@@ -21,4 +21,7 @@ pub returns-in-overflow : need.returns-in-overflow
 returns-in-overflow c = rw (named (need.at·returns-in-overflow c .In-Some), c .in-overflow .is) (c .overflow .ensures)
 
 pub returns-in-rest-name : need.returns-in-rest-name
-returns-in-rest-name c = rw (named (need.at·returns-in-rest-name c .In-Some)) (unknown-name (c .in-Some .name .now) (to-come (c .next .last .self)) (c .in-rest-name .not-overflow))
+returns-in-rest-name c = rw (named (need.at·returns-in-rest-name c .In-Some)) (unknown-name (c .in-Some .name .now) (to-come (c .next .last .self)) (c .in-rest-name .not-overflow) (c .in-rest-name .not-rule))
+
+pub returns-in-rule : need.returns-in-rule
+returns-in-rule c = rw (named (need.at·returns-in-rule c .In-Some), c .in-rule .is) (c .rule .ensures)
