@@ -1,6 +1,6 @@
 -- Entering a change into a table of points.
 use Rattle.std.proofs.Common.{◌≡◌, ℕ, zero, suc, ◌+◌, ◌<◌, ◌≤◌, Bool, true, false, cond, leb, List, [], ◌∷◌, ◌++◌, length, get_or, take, drop, set, ℤ, pos, ◌+ℤ◌, sym, refl, ap, ◌∙◌, subst, ap₂, inl, inr, arith}
-use lib.Seq.{take_set_lt}
+use Rattle.std.proofs.Math.Seq.{take-set-lt}
 use Rattle.std.specs.List.{insert, AllByRecursion as All}
 use Rattle.std.proofs.lemmas.Int.{ints}
 use Rattle.std.specs.Cmp.{nat_cmp_total}
@@ -135,7 +135,7 @@ module _ (points points' : List Point) (len len' : ℕ) (e : Point) (i : ℕ) wh
     pub entered_by_alter : Seated nat_cmp_total minute e before (Present i) → Rising before → (points'' : List Point) (len'' : ℕ) → len'' ≡ len' → points'' ≡ set points' i (altered (point_at points' i) e) → Entered before e (take len'' points'')
     entered_by_alter seated up points'' len'' as_long changed =
         let within : i < len'' = omega (arith, stored.0, ap length stored.1, length-take len' points') in
-        let after = ap (take len'') changed ∙ take_set_lt len'' points' i _ within in
+        let after = ap (take len'') changed ∙ take-set-lt len'' points' i _ within in
         let same = ap (λ n. take n points') as_long ∙ stored.1 in
         let is = after ∙ ap₂ (λ ps p. set ps i (altered p e)) same same_point in
         subst (Entered before e) (sym is) (entered_present before e i seated up)

@@ -31,19 +31,19 @@ module _ {E K : Type 0} {R : K → K → Ordering} (o : IsTotalOrder R) (key : E
     alike_at i j r d b s h e = let p = get_or_default row i d b h in cc
 
     module _ (i : ℕ) (x : E) (h : i < length row) (is : x ≡ get_or row i x) (kx : K) (named : kx ≡ key x) where
-      read : (r : Ordering) → R kx k r → R (key (get_or row i x)) k ≡ r
+      read : (r : Ordering) → R kx k ≡ r → R (key (get_or row i x)) k ≡ r
       read r e = let says = e in cc
 
       module _ (up : Ascending o key row) (n : ℕ) where
         -- a lower key has only lower ones before it
-        pub below_upto : R kx k Less → n ≡ i + 1 → Below o key k row n
+        pub below_upto : R kx k ≡ Less → n ≡ i + 1 → Below o key k row n
         below_upto e s j b lo hi = elim (cases_lt j i) [
           | inl l ↦ o.trans (key (get_or row j b)) (key (get_or row i b)) k (up j i b l h) (alike_at i i Less x b refl h (read Less e))
           | inr g ↦ alike_at i j Less x b (omega arith) h (read Less e)
         ]
 
         -- a higher key has only higher ones after it
-        pub above_from : R kx k Greater → n ≡ i → Above o key k row n
+        pub above_from : R kx k ≡ Greater → n ≡ i → Above o key k row n
         above_from e s j b lo hi = elim (cases_lt i j) [
           | inl l ↦
               let first : R k (key (get_or row i b)) ≡ Less = flipped (key (get_or row i b)) k Greater (alike_at i i Greater x b refl h (read Greater e)) in

@@ -39,7 +39,7 @@ pub struct Row<'a, E> {
 // The place of the key in the row: where it stands, or else where it would.
 fn place_of<E: Keyed>(row: &[E], key: E::Key) -> Result<usize, usize>
     ensures bound { MatchResult result (λ i. i < length row.now) (λ i. i ≤ length row.now) }
-    ensures found { (o : IsTotalOrder E.Key.Ord.cmp) → Ascending o keyed row.now → Sought o keyed key row.now result }
+    ensures found { (o : IsTotalOrder E.Key.Ord.cmp) → Ascending o E.keyed row.now → Sought o E.keyed key row.now result }
 {
     let mut low = 0;
     let mut high = row.len();
@@ -81,7 +81,7 @@ impl<'a, E: Keyed + Copy> Row<'a, E> {
     // The place of the key in the row: where it stands, or else where it would.
     fn seek(&self, key: E::Key) -> Result<usize, usize>
         ensures bound { MatchResult result (λ i. i < length (row_of self.now)) (λ i. i ≤ length (row_of self.now)) }
-        ensures found { (o : IsTotalOrder E.Key.Ord.cmp) → Ascending o keyed (row_of self.now) → Sought o keyed key (row_of self.now) result }
+        ensures found { (o : IsTotalOrder E.Key.Ord.cmp) → Ascending o E.keyed (row_of self.now) → Sought o E.keyed key (row_of self.now) result }
     {
         let len = self.len();
         place_of(&self.cells[0..len], key)
@@ -91,8 +91,8 @@ impl<'a, E: Keyed + Copy> Row<'a, E> {
     pub fn put(&mut self, element: E) -> Place
         ensures lent { self.new.cells.ghost_name ≡ self.old.cells.ghost_name }
         ensures stored { Stored element (row_of self.old) (cells_of self.old) (row_of self.new) (cells_of self.new) result }
-        ensures seated { (o : IsTotalOrder E.Key.Ord.cmp) → Ascending o keyed (row_of self.old) → Seated o keyed element (row_of self.old) result }
-        ensures ascends { (o : IsTotalOrder E.Key.Ord.cmp) → Ascending o keyed (row_of self.old) → Ascending o keyed (row_of self.new) }
+        ensures seated { (o : IsTotalOrder E.Key.Ord.cmp) → Ascending o E.keyed (row_of self.old) → Seated o E.keyed element (row_of self.old) result }
+        ensures ascends { (o : IsTotalOrder E.Key.Ord.cmp) → Ascending o E.keyed (row_of self.old) → Ascending o E.keyed (row_of self.new) }
     {
         let len = self.len();
         match self.seek(element.key()) {

@@ -1,17 +1,23 @@
--- What a chain of applications of a sound rule keeps, and that there is one chain from each table.
-use Rattle.std.proofs.Common.{◌≡◌, ℕ, suc, ◌+◌, ◌≤◌, List, [], ◌∷◌, Ok, Err, Result, sym, refl, ap, subst, arith}
+-- What moves and chains of applications of a sound rule keep, and that there is one chain from each table.
+use Rattle.std.proofs.Common.{◌≡◌, ◌≢◌, ℕ, suc, ◌+◌, ◌≤◌, List, [], ◌∷◌, Ok, Err, Result, sym, refl, ap, subst, arith}
 use Rattle.lots.specs.Schedules.{Placed}
 use Rattle.lots.specs.Tables.{Lawful}
 use Rattle.lots.specs.declared.Lot.{Lot}
 use Rattle.lots.specs.declared.Refusal.{Refusal}
 use Rattle.rule.specs.Meanings.{Meaning, Outcome, dead, to, Gives, Dies, SameWork, Narrower, Keeps, Hopeless, Sound}
-use Rattle.rule.specs.Settled.{Chain, still, dies, moves, slack, Settled, Settles}
+use Rattle.rule.specs.Settled.{Moves, none, more, slack, Settled, Settles}
 use Rattle.rule.specs.declared.Verdict.{Verdict}
 use Rattle.rule.specs.declared.Verdict.TheVariants.{Still, Moved, Dead}
 use Rattle.rule.specs.Outcomes.{gives_weaker, dies_weaker, gives_at}
 use Rattle.rule.proofs.Schedules.{schedule_same}
 use Rattle.rule.proofs.Slack.{moved_falls}
 use Rattle.rule.specs.Tables.{same_work_refl, same_work_sym, same_work_trans, narrower_refl, narrower_trans}
+
+-- k applications lead from T to the outcome: each but the last moves to another table, and the last is still or dead
+pub data Chain (m : Meaning) (C : ℕ) : List Lot → ℕ → Outcome → Type 0 where
+  still : {T : List Lot} → m C T ≡ to T → Chain m C T 1 (to T)
+  dies : {T : List Lot} → m C T ≡ dead → Chain m C T 1 dead
+  moves : {T U : List Lot} {k : ℕ} {o : Outcome} → m C T ≡ to U → (U ≢ T) → Chain m C U k o → Chain m C T (suc k) o
 
 -- U is lawful and of the same work as T, no window is wider, and no schedule is lost
 pub record Kept (C : ℕ) (T U : List Lot) : Type 0 where
@@ -105,11 +111,25 @@ chain_same m C T (moves {U = U} {o = o} e ne h) (moves {U = V} {k = k} {o = q} f
     let r = chain_same m C U h (subst (λ W. Chain m C W k q) s g) in
     (ap suc r.0, r.1)
 
+-- moves keep what one application keeps
+pub moves_kept : (m : Meaning) → Sound m → (C : ℕ) (T : List Lot) → Lawful C T → {n : ℕ} {U : List Lot} → Moves m C T n U → Kept C T U
+moves_kept m p C T ok none = kept_refl C T ok
+moves_kept m p C T ok (more {U = V} {V = U} h e ne) =
+    let before = moves_kept m p C T ok h in
+    kept_trans C T V U before (sound_kept m p C V U before.lawful e)
+
+-- whatever U comes to, T comes to, where moves lead from T to U
+pub moves_then : (m : Meaning) (C : ℕ) (T : List Lot) {n : ℕ} {U : List Lot} → Moves m C T n U → (k : ℕ) (o : Outcome) → Chain m C U k o → Chain m C T (n + k) o
+moves_then m C T none k o h = let s : k ≡ 0 + k = omega arith in subst (λ i. Chain m C T i o) s h
+moves_then m C T (more {n = n} {U = V} {V = U} h e ne) k o r =
+    let s : n + suc k ≡ suc n + k = omega arith in
+    subst (λ i. Chain m C T i o) s (moves_then m C T h (suc k) o (moves e ne r))
+
 -- whatever settling answers, the table after it keeps what the table before it had
 pub settled_kept : (m : Meaning) → Sound m → (C : ℕ) (T U : List Lot) → Lawful C T → (v : Verdict) (k : ℕ) → Settled m C T U v k → Kept C T U
-settled_kept m p C T U ok Still k s = chain_kept m p C T ok s.0
-settled_kept m p C T U ok Moved k s = chain_kept m p C T ok s.0
-settled_kept m p C T U ok Dead k s = subst (Kept C T) (sym s.1) (kept_refl C T ok)
+settled_kept m p C T U ok Still k s = subst (Kept C T) (sym s.2) (kept_refl C T ok)
+settled_kept m p C T U ok Moved k (n, some, count, h, e) = moves_kept m p C T ok h
+settled_kept m p C T U ok Dead k (n, W, count, h, e, same) = subst (Kept C T) (sym same) (kept_refl C T ok)
 
 -- a lawful table is lawful after settling, whatever the answer
 pub settles_lawful : (m : Meaning) → Sound m → (C : ℕ) (T U : List Lot) (r : Result (Verdict × ℕ) Refusal) → Lawful C T → Settles m C T U r → Lawful C U

@@ -8,7 +8,7 @@ use lots::{Lot, Refusal, is_lawful};
 
 // Applies the rule until it is still or dead, and counts the applications. Dead puts back the windows from before.
 pub fn settle<R: Rule>(rule: &R, capacity: u16, lots: &mut [Lot]) -> Result<(Verdict, u32), Refusal>
-    ensures { Settles (meaning rule.now) capacity lots.old lots.new result }
+    ensures { Settles (R.meaning rule.now) capacity lots.old lots.new result }
 {
     if !is_lawful(capacity, lots) {
         return Err(Refusal::Unlawful);

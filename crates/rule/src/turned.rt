@@ -52,7 +52,7 @@ impl<X: Rule> Rule for Turned<X> {
 
 // The rule turned twice, which means the rule itself.
 pub fn turned_twice<X: Rule>(rule: X) -> Turned<Turned<X>>
-    ensures { (result.rule.rule ≡ rule) × Alike (turned_round (turned_round (meaning rule))) (meaning rule) }
+    ensures { (result.rule.rule ≡ rule) × Alike (turned_round (turned_round (X.meaning rule))) (X.meaning rule) }
 {
     Turned {
         rule: Turned { rule },

@@ -6,22 +6,22 @@ use Rattle.std.proofs.lemmas.Bool.Decides.{not_from_Decides}
 use Rattle.std.specs.List.{AllByRecursion as All}
 use Rattle.lots.specs.Tables.{LawfulLot}
 use Rattle.lots.proofs.is_lawful.Goals as goal
-use Rattle.lots.proofs.is_lawful.Goals.{then-number-ge-MAX-LOTS-via-then-number-ge-MAX-LOTS, then-number-ge-MAX-LOTS-via-else-number-ge-MAX-LOTS+then-not-is-lawful}
+use Rattle.lots.proofs.is_lawful.Goals.{then-number-ge-MAX_LOTS-via-then-number-ge-MAX_LOTS, then-number-ge-MAX_LOTS-via-else-number-ge-MAX_LOTS+then-not-is_lawful}
 
-pub returns-then-number-ge-MAX-LOTS : goal.returns-then-number-ge-MAX-LOTS
-returns-then-number-ge-MAX-LOTS c = (
+pub returns-then-number-ge-MAX_LOTS : goal.returns-then-number-ge-MAX_LOTS
+returns-then-number-ge-MAX_LOTS c = (
   λ e. absurd (false≢true e),
-  λ ok. elim c.then-number-ge-MAX-LOTS.branch [
-    | then-number-ge-MAX-LOTS-via-then-number-ge-MAX-LOTS w ↦ absurd (omega (arith, ok.few_lots, w.if-number-ge-MAX-LOTS.true))
-    | then-number-ge-MAX-LOTS-via-else-number-ge-MAX-LOTS+then-not-is-lawful w ↦
-        absurd (not_from_Decides _ w.is-lawful.ensures w.if-not-is-lawful.true (All-get_or _ _ _ _ c.loop-number-test.true ok.each))
+  λ ok. elim c.then-number-ge-MAX_LOTS.branch [
+    | then-number-ge-MAX_LOTS-via-then-number-ge-MAX_LOTS w ↦ absurd (omega (arith, ok.few_lots, w.if-number-ge-MAX_LOTS.true))
+    | then-number-ge-MAX_LOTS-via-else-number-ge-MAX_LOTS+then-not-is_lawful w ↦
+        absurd (not_from_Decides _ w.is_lawful.ensures w.if-not-is_lawful.true (All-get_or _ _ _ _ c.loop-number-test.true ok.each))
   ],
 )
 
 pub loop-number-preserved : goal.loop-number-preserved
 loop-number-preserved c = (
   omega arith,
-  All-more _ _ _ _ c.loop-number-test.true c.loop-number.invariant.1 (c.is-lawful.ensures.0 c.if-not-is-lawful.false),
+  All-more _ _ _ _ c.loop-number-test.true c.loop-number.invariant.1 (c.is_lawful.ensures.0 c.if-not-is_lawful.false),
 )
 
 pub returns : goal.returns

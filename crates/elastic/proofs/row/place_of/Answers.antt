@@ -1,4 +1,4 @@
-use Rattle.std.proofs.Common.{arith}
+use Rattle.std.proofs.Common.{sym, arith}
 use Rattle.elastic.proofs.Rows.{below_upto, above_from, below_same, above_same}
 use Rattle.elastic.proofs.row.place_of.Goals as goal
 use Rattle.elastic.proofs.row.place_of.Goals.{in-Less, in-Greater}
@@ -9,7 +9,7 @@ loop-low-preserved g c = elim c.match-cmp.branch [
     omega (arith, w.low-is, w.high-is),
     omega (arith, w.high-is),
     λ o up. (
-      below_upto o g.E.Keyed.keyed _ _ _ c.index-row-middle.result (omega arith) c.index-row-middle.is _ c.key.ensures up _ w.in-Less.ensures w.low-is,
+      below_upto o g.E.Keyed.keyed _ _ _ c.index-row-middle.result (omega arith) c.index-row-middle.is _ c.key.ensures up _ (sym w.in-Less.ensures) w.low-is,
       above_same o g.E.Keyed.keyed _ _ _ _ w.high-is (c.loop-low.invariant.2 o up).1,
     ),
   )
@@ -18,7 +18,7 @@ loop-low-preserved g c = elim c.match-cmp.branch [
     omega (arith, w.high-is),
     λ o up. (
       below_same o g.E.Keyed.keyed _ _ _ _ w.low-is (c.loop-low.invariant.2 o up).0,
-      above_from o g.E.Keyed.keyed _ _ _ c.index-row-middle.result (omega arith) c.index-row-middle.is _ c.key.ensures up _ w.in-Greater.ensures w.high-is,
+      above_from o g.E.Keyed.keyed _ _ _ c.index-row-middle.result (omega arith) c.index-row-middle.is _ c.key.ensures up _ (sym w.in-Greater.ensures) w.high-is,
     ),
   )
 ]

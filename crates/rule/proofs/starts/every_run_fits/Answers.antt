@@ -6,12 +6,12 @@ use Rattle.rule.proofs.starts.every_run_fits.Goals as goal
 
 pub loop-number-preserved : goal.loop-number-preserved
 loop-number-preserved c =
-    fit_on (λ j. get_or c.args.bounds.now j 0) _ _ c.loop-number-test.true _ _ c.bound-of.ensures c.fits.ensures c.if-not-fits.false
+    fit_on (λ j. get_or c.args.bounds.now j 0) _ _ c.loop-number-test.true _ _ c.bound_of.ensures c.fits.ensures c.if-not-fits.false
     ∙ c.loop-number.invariant
 
 pub returns-then-not-fits : goal.returns-then-not-fits
 returns-then-not-fits c =
-    sym (fit_ends (λ j. get_or c.args.bounds.now j 0) _ _ c.loop-number-test.true _ _ c.bound-of.ensures c.fits.ensures c.if-not-fits.true)
+    sym (fit_ends (λ j. get_or c.args.bounds.now j 0) _ _ c.loop-number-test.true _ _ c.bound_of.ensures c.fits.ensures c.if-not-fits.true)
     ∙ c.loop-number.invariant
 
 pub returns : goal.returns

@@ -11,7 +11,7 @@ enter-requires c =
       free = omega (arith, few.0, c.requires.profile.1);
       rising = c.requires.profile.2.rising;
       small = few_small _ _ few (omega (arith, c.requires.profile.1));
-      small-change = subst (Small max_capacity) (sym c.at_est.ensures) (small_at_est _ c.requires.lawful);
+      small_change = subst (Small max_capacity) (sym c.at_est.ensures) (small_at_est _ c.requires.lawful);
     }
 
 pub enter-requires-2 : goal.enter-requires-2
@@ -22,7 +22,7 @@ enter-requires-2 c =
       free = omega (arith, few.0, c.requires.profile.1);
       rising = c.enter.ensures.entered.rising;
       small = few_small _ _ few (omega (arith, c.requires.profile.1));
-      small-change = subst (Small max_capacity) (sym c.at_ect.ensures) (small_at_ect _ c.requires.lawful);
+      small_change = subst (Small max_capacity) (sym c.at_ect.ensures) (small_at_ect _ c.requires.lawful);
     }
 
 pub enter-requires-3 : goal.enter-requires-3
@@ -34,7 +34,7 @@ enter-requires-3 c =
       free = omega (arith, few.0, c.requires.profile.1);
       rising = c.enter-2.ensures.entered.rising;
       small = few_small _ _ few (omega (arith, c.requires.profile.1));
-      small-change = subst (Small max_capacity) (sym c.at_lct.ensures) (small_at_lct _ c.requires.lawful);
+      small_change = subst (Small max_capacity) (sym c.at_lct.ensures) (small_at_lct _ c.requires.lawful);
     }
 
 pub returns : goal.returns

@@ -8,7 +8,7 @@ alter-requires c =
     record {
       within = omega (arith, stored.0);
       small = small_there _ _ _ _ c.args.change _ stored _ c.requires.small;
-      small-change = c.requires.small-change;
+      small_change = c.requires.small_change;
     }
 
 pub unreachable-requires : goal.unreachable-requires

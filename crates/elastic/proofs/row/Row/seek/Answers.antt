@@ -7,6 +7,6 @@ pub returns : goal.returns
 returns g c =
     let same = take_min c.args.self.now.cells.now c.args.self.now.len (c.len-len.result - 0) (omega arith) in
     record {
-      bound = subst (λ row. MatchResult c.place-of.result (λ i. i < length row) (λ i. i ≤ length row)) same c.place-of.ensures.bound;
-      found = λ o. subst (λ row. Ascending o g.E.Keyed.keyed row → Sought o g.E.Keyed.keyed c.args.key row c.place-of.result) same (c.place-of.ensures.found o);
+      bound = subst (λ row. MatchResult c.place_of.result (λ i. i < length row) (λ i. i ≤ length row)) same c.place_of.ensures.bound;
+      found = λ o. subst (λ row. Ascending o g.E.Keyed.keyed row → Sought o g.E.Keyed.keyed c.args.key row c.place_of.result) same (c.place_of.ensures.found o);
     }

@@ -8,11 +8,11 @@ use Rattle.rule.specs.Turns.{lawful_week, turn_lawful}
 use Rattle.rule.proofs.turned.TurnedRule.apply.Goals as goal
 
 pub turn-requires : goal.turn-requires
-turn-requires g c = lawful_week c.args.capacity _ (c.is-lawful.ensures.0 c.if-not-is-lawful.false)
+turn-requires g c = lawful_week c.args.capacity _ (c.is_lawful.ensures.0 c.if-not-is_lawful.false)
 
 pub turn-requires-2 : goal.turn-requires-2
 turn-requires-2 g c =
-    let ok = turn_lawful c.args.capacity _ (c.is-lawful.ensures.0 c.if-not-is-lawful.false) in
+    let ok = turn_lawful c.args.capacity _ (c.is_lawful.ensures.0 c.if-not-is_lawful.false) in
     lawful_week c.args.capacity _
     (applied_lawful _ (g.met.X.Rule.sound c.args.self.now.rule) _ _ _ c.apply-answer.result (subst (Lawful c.args.capacity) (sym c.turn.ensures) ok) c.apply-answer.ensures)
 
@@ -24,4 +24,4 @@ returns g c =
     let T = c.args.lots.now in
     let a = subst (λ V. Applied m C V c.apply-answer.new.lots r) c.turn.ensures c.apply-answer.ensures in
     subst (λ V. Applied (turned m) C T V r) (sym c.turn-2.ensures)
-    (turned_applied m (g.met.X.Rule.sound c.args.self.now.rule) C T _ r (c.is-lawful.ensures.0 c.if-not-is-lawful.false) a)
+    (turned_applied m (g.met.X.Rule.sound c.args.self.now.rule) C T _ r (c.is_lawful.ensures.0 c.if-not-is_lawful.false) a)
