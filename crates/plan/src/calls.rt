@@ -71,8 +71,8 @@ impl Plan {
 
     // Applies the rule until it is still or dead, and counts the applications. Dead puts back the windows from before.
     pub fn tighten<R: Rule>(&mut self, rule: &R) -> (Verdict, u32)
-        ensures exact { Tightened (meaning rule.now) (held self.old) (held self.new) result.0 result.1 }
-        ensures follows { Follows (accepted (tightening (meaning rule.now))) (held self.old) (held self.new) }
+        ensures exact { Tightened (R.meaning rule.now) (held self.old) (held self.new) result.0 result.1 }
+        ensures follows { Follows (accepted (tightening (R.meaning rule.now))) (held self.old) (held self.new) }
     {
         let len = self.len;
         match settle(rule, self.capacity, &mut self.cells[0..len]) {

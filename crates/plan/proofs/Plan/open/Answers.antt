@@ -14,10 +14,10 @@ returns-then-capacity-eq0 c =
     let x : Opened C T T (Err Capacity) = search rules in
     record { exact = x; follows = open_follows C T T (Err Capacity) x; begins = tt }
 
-pub invariant-of-self : goal.invariant-of-self
-invariant-of-self c =
+pub invariant_of-self : goal.invariant_of-self
+invariant_of-self c =
     let k : Passed (open_checks c.args.capacity) = search rules in
-    (omega arith, (∣ empty_lawful c.args.capacity k ∣₁, tt))
+    record { within = omega arith; lawful = ∣ empty_lawful c.args.capacity k ∣₁ }
 
 pub returns : goal.returns
 returns c =

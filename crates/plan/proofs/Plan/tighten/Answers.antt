@@ -10,14 +10,14 @@ use Rattle.plan.proofs.Histories.{tighten_follows}
 use Rattle.plan.proofs.Lawful.{lawful_out}
 use Rattle.plan.proofs.Plan.tighten.Goals as goal
 
-pub invariant-of-self : goal.invariant-of-self
-invariant-of-self g c =
+pub invariant_of-self : goal.invariant_of-self
+invariant_of-self g c =
     let plan = c.args.self.now in
     let m = g.R.Rule.meaning c.args.rule.now in
     let s : Settles m plan.capacity (take plan.len plan.cells) c.settle.new.lots c.settle.result = search rules in
     let l = settles_lawful m (g.met.R.Rule.sound c.args.rule.now) plan.capacity _ _ c.settle.result (lawful_out plan.lawful) s in
     let n : length c.settle.new.lots ≡ plan.len = search (rules, overwrites) in
-    (plan.within, (∣ subst (Lawful plan.capacity) (sym (take_at c.settle.new.lots _ plan.len n)) l ∣₁, tt))
+    record { within = plan.within; lawful = ∣ subst (Lawful plan.capacity) (sym (take_at c.settle.new.lots _ plan.len n)) l ∣₁ }
 
 pub unreachable-requires : goal.unreachable-requires
 unreachable-requires g c =

@@ -5,19 +5,19 @@ use Rattle.rules.specs.Chosen.{chosen, held}
 use Rattle.rules.specs.NotFirst.{in_cut}
 use Rattle.rules.specs.ChosenLots.{chosen_takes, chosen_skips}
 use Rattle.rules.proofs.not_first.cut_of.Goals as goal
-use Rattle.rules.proofs.not_first.cut_of.Goals.{then-is-in-cut, else-is-in-cut}
+use Rattle.rules.proofs.not_first.cut_of.Goals.{then-is_in_cut, else-is_in_cut}
 
 pub loop-number-preserved : goal.loop-number-preserved
-loop-number-preserved c = elim c.if-is-in-cut.branch [
-  | then-is-in-cut w ↦ (
+loop-number-preserved c = elim c.if-is_in_cut.branch [
+  | then-is_in_cut w ↦ (
     chosen_takes (in_cut c.args.i (lot_at c.args.lots.now c.args.i).est c.args.minute) _ _ c.loop-number-test.true _ c.loop-number.invariant.0
-        (sym c.is-in-cut.ensures ∙ w.if-is-in-cut.true) _ (ap held w.cut-is ∙ w.push.ensures.1),
+        (sym c.is_in_cut.ensures ∙ w.if-is_in_cut.true) _ (ap held w.cut-is ∙ w.push.ensures.1),
     omega (arith, ap (λ g. g.len) w.cut-is, w.push.ensures.0),
     omega (arith, ap (λ g. g.len) w.cut-is, w.push.ensures.0, ap length (ap held w.cut-is ∙ w.push.ensures.1), length_push (held c.loop-number.cut) (lot_at c.args.lots.now c.loop-number.number)),
   )
-  | else-is-in-cut w ↦ (
+  | else-is_in_cut w ↦ (
     ap held w.cut-is
-        ∙ chosen_skips (in_cut c.args.i (lot_at c.args.lots.now c.args.i).est c.args.minute) _ _ c.loop-number-test.true _ c.loop-number.invariant.0 (sym c.is-in-cut.ensures ∙ w.if-is-in-cut.false),
+        ∙ chosen_skips (in_cut c.args.i (lot_at c.args.lots.now c.args.i).est c.args.minute) _ _ c.loop-number-test.true _ c.loop-number.invariant.0 (sym c.is_in_cut.ensures ∙ w.if-is_in_cut.false),
     omega (arith, ap (λ g. g.len) w.cut-is),
     ap (λ g. g.len) w.cut-is ∙ c.loop-number.invariant.2 ∙ ap (λ g. length (held g)) (sym w.cut-is),
   )

@@ -12,7 +12,7 @@ loop-cut-preserved c =
       at_drop_more (λ (cs : List Cut). greatest_end_bound c.args.capacity c.args.lots.now c.args.i (cut_ends cs)) c.args.cuts.now c.loop-cut.cut-index (record { lct = 0; lot = 0 }) c.loop-cut-test.true,
       c.loop-cut.invariant,
       c.max-bound.ensures,
-      c.bound-at.ensures,
+      c.bound_at.ensures,
     )
 
 pub returns : goal.returns

@@ -6,13 +6,13 @@ use Rattle.rules.specs.NotFirst.{least_ect}
 use Rattle.rules.proofs.Leasts.{least_from, least_starts, least_on, least_done}
 use Rattle.rules.proofs.not_first.least_end.Goals as goal
 
-pub returns-then-is-empty : goal.returns-then-is-empty
-returns-then-is-empty c = sym (ap least_ect (nil_from_length _ (eqb-true _ 0 (sym c.is-empty.ensures ∙ c.if-is-empty.true))))
+pub returns-then-is_empty : goal.returns-then-is_empty
+returns-then-is_empty c = sym (ap least_ect (nil_from_length _ (eqb-true _ 0 (sym c.is_empty.ensures ∙ c.if-is_empty.true))))
 
 pub loop-lot-init : goal.loop-lot-init
 loop-lot-init c =
     ap (λ m. least_from ect m c.args.lots.now) c.ect-least.ensures
-    ∙ least_starts ect least_ect (λ x. refl) (λ x y ys. refl) c.args.lots.now (omega (arith, eqb-false _ 0 (sym c.is-empty.ensures ∙ c.if-is-empty.false)))
+    ∙ least_starts ect least_ect (λ x. refl) (λ x y ys. refl) c.args.lots.now (omega (arith, eqb-false _ 0 (sym c.is_empty.ensures ∙ c.if-is_empty.false)))
 
 pub loop-lot-preserved : goal.loop-lot-preserved
 loop-lot-preserved c = least_on ect _ _ _ c.loop-lot-test.true _ (c.min-least.ensures ∙ ap (min c.loop-lot.least) c.ect.ensures) ∙ c.loop-lot.invariant

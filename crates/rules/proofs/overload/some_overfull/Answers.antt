@@ -8,17 +8,17 @@ use Rattle.rules.specs.ChosenLots.{chosen_lawful}
 use Rattle.rules.specs.OverloadSound.{some_found, some_on}
 use Rattle.rules.proofs.overload.some_overfull.Goals as goal
 
-pub is-overfull-requires : goal.is-overfull-requires
-is-overfull-requires c = (
-  subst (Lawful c.args.capacity) (sym c.due-by.ensures.0) (chosen_lawful _ c.args.capacity c.args.lots.now c.requires),
-  omega (arith, c.due-by.ensures.1),
+pub is_overfull-requires : goal.is_overfull-requires
+is_overfull-requires c = (
+  subst (Lawful c.args.capacity) (sym c.due_by.ensures.0) (chosen_lawful _ c.args.capacity c.args.lots.now c.requires),
+  omega (arith, c.due_by.ensures.1),
 )
 
-pub returns-then-is-overfull : goal.returns-then-is-overfull
-returns-then-is-overfull c = sym (some_found _ _ _ _ c.loop-cut-test.true _ _ c.due-by.ensures.0 c.is-overfull.ensures c.if-is-overfull.true) ∙ c.loop-cut.invariant
+pub returns-then-is_overfull : goal.returns-then-is_overfull
+returns-then-is_overfull c = sym (some_found _ _ _ _ c.loop-cut-test.true _ _ c.due_by.ensures.0 c.is_overfull.ensures c.if-is_overfull.true) ∙ c.loop-cut.invariant
 
 pub loop-cut-preserved : goal.loop-cut-preserved
-loop-cut-preserved c = some_on _ _ _ _ c.loop-cut-test.true _ _ c.due-by.ensures.0 c.is-overfull.ensures c.if-is-overfull.false ∙ c.loop-cut.invariant
+loop-cut-preserved c = some_on _ _ _ _ c.loop-cut-test.true _ _ c.due_by.ensures.0 c.is_overfull.ensures c.if-is_overfull.false ∙ c.loop-cut.invariant
 
 pub returns : goal.returns
 returns c = sym (at_drop_all (λ (cs : List Cut). some_overfull c.args.capacity c.args.lots.now (cut_ends cs)) _ _ c.loop-cut-test.false) ∙ c.loop-cut.invariant

@@ -9,8 +9,8 @@ use Rattle.rules.proofs.time_table.fixed_loads.Goals as goal
 pub loop-lot-init : goal.loop-lot-init
 loop-lot-init c = (refl, λ t h. get_or-replicate horizon t 0 0 h)
 
-pub add-fixed-requires : goal.add-fixed-requires
-add-fixed-requires c = record {
+pub add_fixed-requires : goal.add_fixed-requires
+add_fixed-requires c = record {
   lawful = All-get_or _ _ _ _ c.loop-lot-test.true c.requires.each;
   minutes = c.loop-lot.invariant.0;
   few = λ t h. omega (arith, c.loop-lot.invariant.1 t h, loads_few_so_far c.args.lots.now c.requires t c.loop-lot.lot-index);
@@ -18,8 +18,8 @@ add-fixed-requires c = record {
 
 pub loop-lot-preserved : goal.loop-lot-preserved
 loop-lot-preserved c = (
-  c.add-fixed.auto.loads ∙ c.loop-lot.invariant.0,
-  λ t h. omega (arith, c.add-fixed.ensures t h, c.loop-lot.invariant.1 t h, fixed_more c.args.lots.now c.loop-lot.lot-index t c.loop-lot-test.true),
+  c.add_fixed.auto.loads ∙ c.loop-lot.invariant.0,
+  λ t h. omega (arith, c.add_fixed.ensures t h, c.loop-lot.invariant.1 t h, fixed_more c.args.lots.now c.loop-lot.lot-index t c.loop-lot-test.true),
 )
 
 pub returns : goal.returns

@@ -7,7 +7,7 @@ loop-number-init c = (so_far_none c.args.lots.now, refl)
 
 pub loop-number-preserved : goal.loop-number-preserved
 loop-number-preserved c = (
-  so_far_more _ _ c.loop-number-test.true _ c.loop-number.invariant.0 _ _ _ c.put.ensures.rising _ c.in-default.not-Full c.put.ensures.stored c.put.ensures.seated,
+  so_far_more _ _ c.loop-number-test.true _ c.loop-number.invariant.0 _ _ _ c.put.ensures.rising _ c.in_default.not-Full c.put.ensures.stored c.put.ensures.seated,
   c.put.ensures.count,
 )
 

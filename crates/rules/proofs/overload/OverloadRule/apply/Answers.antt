@@ -4,21 +4,21 @@ use Rattle.lots.specs.Limits.{max_lots}
 use Rattle.rules.specs.OverloadSound.{overload_by_cuts}
 use Rattle.rules.proofs.overload.OverloadRule.apply.Goals as goal
 
-pub slice-bounds-some-overfull-end : goal.slice-bounds-some-overfull-end
-slice-bounds-some-overfull-end c =
+pub slice_bounds-some_overfull-end : goal.slice_bounds-some_overfull-end
+slice_bounds-some_overfull-end c =
     let within : c.of-cuts.result.len ≤ max_lots = omega (arith, c.of-cuts.ensures.count, length-take c.of-cuts.result.len c.of-cuts.result.cuts) in
     search rules
 
-pub returns-then-some-overfull : goal.returns-then-some-overfull
-returns-then-some-overfull c = (
-  c.is-lawful.ensures.0 c.if-not-is-lawful.false,
-  overload_by_cuts _ _ c.of-cuts.result.cuts c.of-cuts.result.len c.of-cuts.ensures.cuts _ true c.some_overfull.ensures c.if-some-overfull.true,
+pub returns-then-some_overfull : goal.returns-then-some_overfull
+returns-then-some_overfull c = (
+  c.is_lawful.ensures.0 c.if-not-is_lawful.false,
+  overload_by_cuts _ _ c.of-cuts.result.cuts c.of-cuts.result.len c.of-cuts.ensures.cuts _ true c.some_overfull.ensures c.if-some_overfull.true,
   refl,
 )
 
-pub returns-else-some-overfull : goal.returns-else-some-overfull
-returns-else-some-overfull c = (
-  c.is-lawful.ensures.0 c.if-not-is-lawful.false,
-  overload_by_cuts _ _ c.of-cuts.result.cuts c.of-cuts.result.len c.of-cuts.ensures.cuts _ false c.some_overfull.ensures c.if-some-overfull.false,
+pub returns-else-some_overfull : goal.returns-else-some_overfull
+returns-else-some_overfull c = (
+  c.is_lawful.ensures.0 c.if-not-is_lawful.false,
+  overload_by_cuts _ _ c.of-cuts.result.cuts c.of-cuts.result.len c.of-cuts.ensures.cuts _ false c.some_overfull.ensures c.if-some_overfull.false,
   refl,
 )

@@ -5,26 +5,26 @@ use Rattle.rules.proofs.Loads.{time_table_dead, time_table_raises}
 use Rattle.rules.proofs.Raised.{applied_from_answers}
 use Rattle.rules.proofs.time_table.TimeTableRule.apply.Goals as goal
 
-pub fixed-loads-loads-requires : goal.fixed-loads-loads-requires
-fixed-loads-loads-requires c = lawful_under_most _ _ (c.is-lawful.ensures.0 c.if-not-is-lawful.false)
+pub fixed_loads-loads-requires : goal.fixed_loads-loads-requires
+fixed_loads-loads-requires c = lawful_under_most _ _ (c.is_lawful.ensures.0 c.if-not-is_lawful.false)
 
-pub returns-then-some-passes : goal.returns-then-some-passes
-returns-then-some-passes c = (
-  c.is-lawful.ensures.0 c.if-not-is-lawful.false,
-  time_table_dead _ _ c.fixed-loads-loads.result c.fixed-loads-loads.ensures.loaded _ c.fixed-loads-loads.ensures.minutes c.some-passes.ensures c.if-some-passes.true,
+pub returns-then-some_passes : goal.returns-then-some_passes
+returns-then-some_passes c = (
+  c.is_lawful.ensures.0 c.if-not-is_lawful.false,
+  time_table_dead _ _ c.fixed_loads-loads.result c.fixed_loads-loads.ensures.loaded _ c.fixed_loads-loads.ensures.minutes c.some_passes.ensures c.if-some_passes.true,
   refl,
 )
 
-pub bounds-of-bounds-requires : goal.bounds-of-bounds-requires
-bounds-of-bounds-requires c = record {
-  lawful = lawful_under_most _ _ (c.is-lawful.ensures.0 c.if-not-is-lawful.false);
-  minutes = c.fixed-loads-loads.ensures.minutes;
-  loaded = c.fixed-loads-loads.ensures.loaded;
+pub bounds_of-bounds-requires : goal.bounds_of-bounds-requires
+bounds_of-bounds-requires c = record {
+  lawful = lawful_under_most _ _ (c.is_lawful.ensures.0 c.if-not-is_lawful.false);
+  minutes = c.fixed_loads-loads.ensures.minutes;
+  loaded = c.fixed_loads-loads.ensures.loaded;
 }
 
 pub returns : goal.returns
 returns c =
-    applied_from_answers time_table _ _ _ (λ j. get_or c.bounds-of-bounds.result j 0) _
-    (c.is-lawful.ensures.0 c.if-not-is-lawful.false)
-    (time_table_raises _ _ c.fixed-loads-loads.result c.fixed-loads-loads.ensures.loaded _ c.fixed-loads-loads.ensures.minutes c.some-passes.ensures c.if-some-passes.false _ c.bounds-of-bounds.ensures)
+    applied_from_answers time_table _ _ _ (λ j. get_or c.bounds_of-bounds.result j 0) _
+    (c.is_lawful.ensures.0 c.if-not-is_lawful.false)
+    (time_table_raises _ _ c.fixed_loads-loads.result c.fixed_loads-loads.ensures.loaded _ c.fixed_loads-loads.ensures.minutes c.some_passes.ensures c.if-some_passes.false _ c.bounds_of-bounds.ensures)
     c.raise.ensures
