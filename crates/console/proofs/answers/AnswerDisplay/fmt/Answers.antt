@@ -7,9 +7,3 @@ returns-in-ok-write-str-clause-writes g c = λ plain ok.
     let word = rw c.verdict-word-word.ensures at (c.in-ok-write-str.ensures.writes plain refl) in
     let cells = rw c.as-slice.ensures.value at (c.write-cells.ensures word.plain ok) in
     rw c.in-Applied.is (has_written_append _ _ _ _ _ _ word cells)
-
-pub returns-in-ok-write-clause-writes : goal.returns-in-ok-write-clause-writes
-returns-in-ok-write-clause-writes g c = λ plain ok.
-    let capacity = c.in-ok-write.ensures.shows plain refl in
-    let cells = rw c.as-slice-in-Windows.ensures.value at (c.write-cells-in-Windows.ensures capacity.plain ok) in
-    rw c.in-Windows.is (has_written_append _ _ _ _ _ _ capacity cells)
