@@ -1,4 +1,6 @@
 // Measures what an application of a rule costs.
+#![tactic(auto)]
+
 ghost use Rattle.std.specs.Prelude.{◌≤◌};
 ghost use Rattle.lots.specs.Limits.{max_lots};
 

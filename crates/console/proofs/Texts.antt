@@ -1,6 +1,6 @@
 -- A line that writes a call is ASCII, and so it is text.
 use Rattle.std.proofs.Common.{◌≡◌, ℕ, suc, ◌<◌, Bool, true, false, cond, eqb, List, [], ◌∷◌, codes, IsUtf8, IsAscii, sym, refl, subst, inl, inr, arith, rules}
-use Rattle.std.specs.List.{AllByRecursion as All}
+use Rattle.std.specs.List.{AllByRecursion}
 use Rattle.std.specs.Str.{all_ascii_digits}
 use Rattle.std.proofs.lemmas.Str.Ascii.{IsAscii-nil, IsAscii-cons}
 use Rattle.std.proofs.ByRecursion.{IsAscii-from_all}
@@ -22,16 +22,16 @@ number_ascii : (w : List ℕ) (n : ℕ) → Number w n → IsAscii w
 number_ascii w n is = digits_ascii w is.digits_only
 
 -- one step of `ascii-from-pieces`, by whether b is the byte c
-first_ascii : (b c : ℕ) (bs : List ℕ) (ps : List (List ℕ)) (cut : Bool) → c < 128 → eqb b c ≡ cut → All IsAscii (cond cut ([] ∷ ps) (onto_first b ps)) → (All IsAscii ps → IsAscii bs) → IsAscii (b ∷ bs)
+first_ascii : (b c : ℕ) (bs : List ℕ) (ps : List (List ℕ)) (cut : Bool) → c < 128 → eqb b c ≡ cut → AllByRecursion IsAscii (cond cut ([] ∷ ps) (onto_first b ps)) → (AllByRecursion IsAscii ps → IsAscii bs) → IsAscii (b ∷ bs)
 first_ascii b c bs ps true ascii is all rest = IsAscii-cons b bs (omega (arith, eqb-true b c is)) (rest all.1)
 first_ascii b c bs [] false ascii is all rest = IsAscii-cons b bs (all.0 0) (rest tt)
 first_ascii b c bs (w ∷ ws) false ascii is all rest = IsAscii-cons b bs (all.0 0) (rest (λ i. all.0 (suc i), all.1))
 
-ascii_from_pieces : (c : ℕ) (bs : List ℕ) → c < 128 → All IsAscii (pieces c bs) → IsAscii bs
+ascii_from_pieces : (c : ℕ) (bs : List ℕ) → c < 128 → AllByRecursion IsAscii (pieces c bs) → IsAscii bs
 ascii_from_pieces c [] ascii all = IsAscii-nil
 ascii_from_pieces c (b ∷ bs) ascii all = first_ascii b c bs (pieces c bs) (eqb b c) ascii refl all (ascii_from_pieces c bs ascii)
 
-ascii_from_each : {Y : Type 0} (R : List ℕ → Y → Type 0) → ((w : List ℕ) (y : Y) → R w y → IsAscii w) → (ws : List (List ℕ)) (ys : List Y) → Each R ws ys → All IsAscii ws
+ascii_from_each : {Y : Type 0} (R : List ℕ → Y → Type 0) → ((w : List ℕ) (y : Y) → R w y → IsAscii w) → (ws : List (List ℕ)) (ys : List Y) → Each R ws ys → AllByRecursion IsAscii ws
 ascii_from_each R ascii [] [] h = tt
 ascii_from_each R ascii [] (y ∷ ys) h = absurd h
 ascii_from_each R ascii (w ∷ ws) [] h = absurd h
@@ -51,20 +51,20 @@ pile_ascii pile.TurnedTimeTable = IsAscii-from_all (pile_word pile.TurnedTimeTab
 pile_ascii pile.TurnedNotFirst = IsAscii-from_all (pile_word pile.TurnedNotFirst) (search rules)
 pile_ascii pile.House = IsAscii-from_all (pile_word pile.House) (search rules)
 
-table_ascii : (words : List (List ℕ)) (C : ℕ) (T : List Lot) → Table words C T → All IsAscii words
+table_ascii : (words : List (List ℕ)) (C : ℕ) (T : List Lot) → Table words C T → AllByRecursion IsAscii words
 table_ascii [] C T is = tt
 table_ascii (word ∷ words) C T is = (number_ascii word C is.0, ascii_from_each Cell cell_ascii words T is.1)
 
-overflow_ascii : (words : List (List ℕ)) (C : ℕ) (T : List Lot) → OverflowCall words C T → All IsAscii words
+overflow_ascii : (words : List (List ℕ)) (C : ℕ) (T : List Lot) → OverflowCall words C T → AllByRecursion IsAscii words
 overflow_ascii [] C T is = tt
 overflow_ascii (name ∷ words) C T is = (subst IsAscii (sym is.0) (IsAscii-from_all (codes "overflow") (search rules)), table_ascii words C T is.1)
 
-rule_ascii : (words : List (List ℕ)) (p : Pile) (C : ℕ) (T : List Lot) → RuleCall words p C T → All IsAscii words
+rule_ascii : (words : List (List ℕ)) (p : Pile) (C : ℕ) (T : List Lot) → RuleCall words p C T → AllByRecursion IsAscii words
 rule_ascii [] p C T is = tt
 rule_ascii (name ∷ []) p C T is = (subst IsAscii (sym is.0) (IsAscii-from_all (codes "rule") (search rules)), tt)
 rule_ascii (name ∷ word ∷ words) p C T is = (subst IsAscii (sym is.0) (IsAscii-from_all (codes "rule") (search rules)), (subst IsAscii (sym is.1) (pile_ascii p), table_ascii words C T is.2))
 
-known_ascii : (words : List (List ℕ)) → Known words → All IsAscii words
+known_ascii : (words : List (List ℕ)) → Known words → AllByRecursion IsAscii words
 known_ascii words (inl asked) = overflow_ascii words asked.0 asked.1 asked.2
 known_ascii words (inr asked) = rule_ascii words asked.0 asked.1 asked.2 asked.3
 

@@ -2,4 +2,4 @@ pub mod Lines
 pub mod Shown
 pub mod Syntax
 pub mod Piles
-pub mod PileSound
+pub mod Laws

@@ -2,7 +2,7 @@
 ghost use Rattle.std.specs.Prelude.{◌≡◌};
 ghost use Rattle.console.specs.Piles.{pile_word, pile_meaning};
 ghost use Rattle.console.specs.Syntax.{Reads};
-ghost use Rattle.console.specs.PileSound.{pile_sound};
+ghost use Rattle.console.specs.Laws.PileSound.{pile_sound};
 
 use lots::{Lot, Refusal};
 use rule::{Idle, Rule, Turned, Verdict};

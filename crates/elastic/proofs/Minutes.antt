@@ -1,6 +1,6 @@
 -- The profile counted from minute 0, and not from the earliest est.
 use Rattle.std.proofs.Common.{◌≡◌, ℕ, zero, suc, ◌+◌, ◌-◌, ◌<◌, ◌≤◌, cond, List, [], ◌∷◌, sym, refl, ap, ◌∙◌, add-suc, arith}
-use Rattle.std.specs.List.{AllByRecursion as All}
+use Rattle.std.specs.List.{AllByRecursion}
 use Rattle.std.proofs.lemmas.Bool.Decides.{nat_tests}
 use Rattle.lots.specs.Schedules.{spans}
 use Rattle.lots.specs.declared.Lot.{Lot}
@@ -29,12 +29,12 @@ pub rest_from : (C : ℕ) (Ω : List Lot) (k : ℕ) → rest C Ω (earliest Ω +
 rest_from C Ω zero = rest_early C Ω (earliest Ω + 0) (omega arith)
 rest_from C Ω (suc k) = ap (rest C Ω) (add-suc (earliest Ω) k) ∙ omega (arith, rest_from C Ω k)
 
-earliest_latest : (Ω : List Lot) → All (λ x. x.est ≤ x.lct) Ω → earliest Ω ≤ latest Ω
+earliest_latest : (Ω : List Lot) → AllByRecursion (λ x. x.est ≤ x.lct) Ω → earliest Ω ≤ latest Ω
 earliest_latest [] h = omega arith
 earliest_latest (x ∷ []) h = omega (arith, h.0)
 earliest_latest (x ∷ (y ∷ ys)) h = omega (arith, h.0)
 
-pub overflow_rest : (C : ℕ) (Ω : List Lot) → All (λ x. x.est ≤ x.lct) Ω → overflow C Ω ≡ rest C Ω (latest Ω)
+pub overflow_rest : (C : ℕ) (Ω : List Lot) → AllByRecursion (λ x. x.est ≤ x.lct) Ω → overflow C Ω ≡ rest C Ω (latest Ω)
 overflow_rest C Ω h =
     let e : earliest Ω + (latest Ω - earliest Ω) ≡ latest Ω = omega (arith, earliest_latest Ω h) in
     sym (rest_from C Ω (latest Ω - earliest Ω)) ∙ ap (rest C Ω) e

@@ -1,7 +1,7 @@
 -- Entering a change into a table of points.
 use Rattle.std.proofs.Common.{◌≡◌, ℕ, zero, suc, ◌+◌, ◌<◌, ◌≤◌, Bool, true, false, cond, leb, List, [], ◌∷◌, ◌++◌, length, get_or, take, drop, set, ℤ, pos, ◌+ℤ◌, sym, refl, ap, ◌∙◌, subst, ap₂, inl, inr, arith}
 use Rattle.std.proofs.Math.Seq.{take-set-lt}
-use Rattle.std.specs.List.{insert, AllByRecursion as All}
+use Rattle.std.specs.List.{insert, AllByRecursion}
 use Rattle.std.proofs.lemmas.Int.{ints}
 use Rattle.std.specs.Cmp.{nat_cmp_total}
 use Rattle.std.proofs.lemmas.List.Edits.{length-insert}
@@ -129,7 +129,7 @@ module _ (points points' : List Point) (len len' : ℕ) (e : Point) (i : ℕ) wh
     same_point : point_at points' i ≡ point_at before i
     same_point = ap (λ ps. point_at ps i) stored.2 ∙ sym (get_or-take len points i _ inside)
 
-    pub small_there : (b : ℕ) → All (Small b) before → Small b (point_at points' i)
+    pub small_there : (b : ℕ) → AllByRecursion (Small b) before → Small b (point_at points' i)
     small_there b s = subst (Small b) (sym same_point) (All-get_or (Small b) before i _ stored.0 s)
 
     pub entered_by_alter : Seated nat_cmp_total minute e before (Present i) → Rising before → (points'' : List Point) (len'' : ℕ) → len'' ≡ len' → points'' ≡ set points' i (altered (point_at points' i) e) → Entered before e (take len'' points'')

@@ -1,6 +1,6 @@
 -- A lot added to a profile.
-use Rattle.std.proofs.Common.{◌≡◌, ℕ, ◌+◌, ◌*◌, ◌<◌, ◌≤◌, Bool, true, false, cond, ◌||◌, eqb, leb, List, [], ◌∷◌, ◌++◌, length, ℤ, pos, ◌+ℤ◌, neg_ℤ, sym, refl, ap, ◌∙◌, subst, ap₂, arith}
-use Rattle.std.specs.List.{AllByRecursion as All}
+use Rattle.std.proofs.Common.{◌≡◌, ℕ, ◌+◌, ◌*◌, ◌<◌, ◌≤◌, Bool, true, false, cond, ◌||◌, eqb, leb, List, [], ◌∷◌, ◌++◌, length, pos, ◌+ℤ◌, neg_ℤ, sym, refl, ap, ◌∙◌, subst, ap₂, arith}
+use Rattle.std.specs.List.{AllByRecursion}
 use Rattle.std.proofs.lemmas.List.{length_push}
 use Rattle.std.proofs.lemmas.Int.{ints}
 use Rattle.std.proofs.lemmas.Bool.Decides.{nat_tests}
@@ -93,7 +93,7 @@ module _ (ps qs rs ps' : List Point) (Ω : List Lot) (x : Lot) (p : Profiles ps 
     at = gathered.at;
     available = λ t. omega (arith, ints, p.available t, n.available t, m.available t, k.available t, step_up_down t x.est x.lct x.c (omega arith), available_push t Ω x, none (leb (ect x) t));
     required = λ t. omega (arith, ints, p.required t, n.required t, m.required t, k.required t, step_up_down t x.est (ect x) x.c (omega arith), creq_push t Ω x, none (leb x.lct t));
-    small = subst (λ b. All (Small b) ps') total (k.small _ max_capacity (m.small _ max_capacity (n.small _ max_capacity p.small (small_at_est x ok)) (small_at_ect x ok)) (small_at_lct x ok));
+    small = subst (λ b. AllByRecursion (Small b) ps') total (k.small _ max_capacity (m.small _ max_capacity (n.small _ max_capacity p.small (small_at_est x ok)) (small_at_ect x ok)) (small_at_lct x ok));
   }
 
 pub entered_as : (ps qs : List Point) (e e' : Point) → e ≡ e' → Entered ps e qs → Entered ps e' qs
@@ -101,16 +101,16 @@ entered_as ps qs e e' is = subst (λ x. Entered ps x qs) is
 
 -- ps came of at most n changes, none greater than the greatest capacity
 abbrev pub Few : ℕ → List Point → Type 0
-Few n ps = (length ps ≤ n) × All (Small (max_capacity * n)) ps
+Few n ps = (length ps ≤ n) × AllByRecursion (Small (max_capacity * n)) ps
 
 pub few_from_profile : (ps : List Point) (Ω : List Lot) → Profiles ps Ω → Few (3 * length Ω) ps
-few_from_profile ps Ω p = (omega (arith, p.count, points_few Ω), subst (λ b. All (Small b) ps) (omega arith) p.small)
+few_from_profile ps Ω p = (omega (arith, p.count, points_few Ω), subst (λ b. AllByRecursion (Small b) ps) (omega arith) p.small)
 
 pub few_more : (n : ℕ) (ps qs : List Point) (e : Point) → Few n ps → Small max_capacity e → Entered ps e qs → Few (n + 1) qs
 few_more n ps qs e f s m = (
   omega (arith, f.0, m.count, at_most_one (has e.minute (minutes_of ps))),
-  subst (λ b. All (Small b) qs) (omega arith) (m.small _ max_capacity f.1 s),
+  subst (λ b. AllByRecursion (Small b) qs) (omega arith) (m.small _ max_capacity f.1 s),
 )
 
-pub few_small : (n : ℕ) (ps : List Point) → Few n ps → n < max_points → All (Small (max_capacity * max_points)) ps
+pub few_small : (n : ℕ) (ps : List Point) → Few n ps → n < max_points → AllByRecursion (Small (max_capacity * max_points)) ps
 few_small n ps f h = All-weaker _ _ (weaker_small (max_capacity * n) (max_capacity * max_points) (omega arith)) ps f.1

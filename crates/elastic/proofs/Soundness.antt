@@ -1,6 +1,6 @@
 -- Lots that have a schedule leave no overflow.
 use Rattle.std.proofs.Common.{◌≡◌, ℕ, zero, suc, ◌+◌, ◌-◌, ◌*◌, ◌≤◌, min, Bool, true, false, cond, List, [], ◌∷◌, refl, ap, ◌∙◌, ap₂, mul-le-mul_left, mul-zero, mul-one, mul-add, arith}
-use Rattle.std.specs.List.{AllByRecursion as All}
+use Rattle.std.specs.List.{AllByRecursion}
 use Rattle.std.proofs.lemmas.Bool.Decides.{nat_tests}
 use Rattle.lots.specs.Schedules.{spans, load, Placed, Schedule}
 use Rattle.lots.specs.declared.Lot.{Lot}
@@ -83,7 +83,7 @@ rest_work C Ω ss h (suc t) =
       h.within t,
     )
 
-placed_fits : (Ω : List Lot) (ss : List ℕ) → Placed Ω ss → All (λ x. x.est ≤ x.lct) Ω
+placed_fits : (Ω : List Lot) (ss : List ℕ) → Placed Ω ss → AllByRecursion (λ x. x.est ≤ x.lct) Ω
 placed_fits [] ss h = tt
 placed_fits (x ∷ xs) [] h = absurd h
 placed_fits (x ∷ xs) (s ∷ ss) h = (omega arith, placed_fits xs ss h.1)

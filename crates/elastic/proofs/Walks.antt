@@ -1,6 +1,6 @@
 -- The walk along the points of a profile.
 use Rattle.std.proofs.Common.{◌≡◌, ℕ, zero, suc, ◌+◌, ◌-◌, ◌*◌, ◌<◌, ◌≤◌, min, Bool, true, false, cond, ◌||◌, eqb, List, [], ◌∷◌, length, drop, ℤ, pos, ◌+ℤ◌, Less, sym, refl, ap, ◌∙◌, subst, inl, inr, add-zero, add-suc, suc-mul, mul-le-mul_left, zero-mul, arith}
-use Rattle.std.specs.List.{AllByRecursion as All}
+use Rattle.std.specs.List.{AllByRecursion}
 use Rattle.std.proofs.lemmas.List.{drop_more, drop_all}
 use Rattle.std.proofs.lemmas.Int.{ints}
 use Rattle.std.proofs.ByRecursion.{All-weaker, All-from_get_or}
@@ -36,8 +36,8 @@ Level f F m n ps = (t : ℕ) → m ≤ t → pos (F t) ≡ pos n +ℤ upto f ps 
 -- where the walk stands: at the minute m, with a trays available, r required, l left over, and the points ps ahead
 pub record Walks (C : ℕ) (Ω : List Lot) (m a r l : ℕ) (ps : List Point) : Type 0 where
   pub rising : Rising ps
-  pub ahead : All (λ p. m ≤ p.minute) ps
-  pub inside : All (λ p. p.minute ≤ latest Ω) ps
+  pub ahead : AllByRecursion (λ p. m ≤ p.minute) ps
+  pub inside : AllByRecursion (λ p. p.minute ≤ latest Ω) ps
   pub reached : m ≤ latest Ω
   pub covers : (t : ℕ) → m < t → has t (minutes Ω) ≡ has t (minutes_of ps)
   pub available : Level (λ p. p.available) (profile.available Ω) m a ps
@@ -50,21 +50,21 @@ cond_most : (b : Bool) (n : ℕ) → cond b n 0 ≤ n
 cond_most true n = omega arith
 cond_most false n = omega arith
 
-latest_in_week : (C : ℕ) (Ω : List Lot) → All (LawfulLot C) Ω → latest Ω ≤ horizon
+latest_in_week : (C : ℕ) (Ω : List Lot) → AllByRecursion (LawfulLot C) Ω → latest Ω ≤ horizon
 latest_in_week C [] ok = omega arith
 latest_in_week C (x ∷ xs) ok = omega (arith, ok.0.in_week, latest_in_week C xs ok.1)
 
 module _ (t : ℕ) where
-  available_most : (Ω : List Lot) → All (LawfulLot max_capacity) Ω → profile.available Ω t ≤ max_capacity * length Ω
+  available_most : (Ω : List Lot) → AllByRecursion (LawfulLot max_capacity) Ω → profile.available Ω t ≤ max_capacity * length Ω
   available_most [] ok = omega arith
   available_most (x ∷ xs) ok = omega (arith, ok.0.has_trays, cond_most (spans x.est x.lct t) x.c, available_most xs ok.1)
 
-  creq_most : (Ω : List Lot) → All (LawfulLot max_capacity) Ω → creq Ω t ≤ max_capacity * length Ω
+  creq_most : (Ω : List Lot) → AllByRecursion (LawfulLot max_capacity) Ω → creq Ω t ≤ max_capacity * length Ω
   creq_most [] ok = omega arith
   creq_most (x ∷ xs) ok = omega (arith, ok.0.has_trays, cond_most (spans x.est (ect x) t) x.c, creq_most xs ok.1)
 
   -- points that are all ahead change nothing yet
-  upto_ahead : (f : Point → ℤ) (ps : List Point) → All (λ p. t < p.minute) ps → upto f ps t ≡ pos 0
+  upto_ahead : (f : Point → ℤ) (ps : List Point) → AllByRecursion (λ p. t < p.minute) ps → upto f ps t ≡ pos 0
   upto_ahead f [] h = refl
   upto_ahead f (p ∷ ps) h =
       let here = ap (λ b. cond b (f p) (pos 0)) (lt-leb p.minute t h.0) in
@@ -76,12 +76,12 @@ rank_less x y e = grind (arith, nat_tests)
 rising_tail : (p : Point) (ps : List Point) → Rising (p ∷ ps) → Rising ps
 rising_tail p ps up i j d h l = up (suc i) (suc j) d (omega arith) (omega arith)
 
-rising_ahead : (p : Point) (ps : List Point) → Rising (p ∷ ps) → All (λ q. p.minute < q.minute) ps
+rising_ahead : (p : Point) (ps : List Point) → Rising (p ∷ ps) → AllByRecursion (λ q. p.minute < q.minute) ps
 rising_ahead p ps up = All-from_get_or (λ q. p.minute < q.minute) ps p (λ i l. rank_less _ _ (up 0 (suc i) p (omega arith) (omega arith)))
 
 -- a level at the next point p
 module _ (f : Point → ℤ) (F : ℕ → ℕ) (m n : ℕ) (p : Point) (ps : List Point) (up : Rising (p ∷ ps)) (later : m ≤ p.minute) (level : Level f F m n (p ∷ ps)) where
-  after : All (λ q. p.minute < q.minute) ps
+  after : AllByRecursion (λ q. p.minute < q.minute) ps
   after = rising_ahead p ps up
 
   -- from p on, it counts
@@ -153,7 +153,7 @@ latest_has (x ∷ xs) h = elim (cases_lt x.lct (latest xs)) [
       or_right (eqb (latest (x ∷ xs)) x.est) _ (or_right (eqb (latest (x ∷ xs)) (ect x)) _ (or_left (eqb (latest (x ∷ xs)) x.lct) _ (eq-eqb (latest (x ∷ xs)) x.lct same)))
 ]
 
-minutes_inside : (C t : ℕ) (Ω : List Lot) → All (LawfulLot C) Ω → has t (minutes Ω) ≡ true → t ≤ latest Ω
+minutes_inside : (C t : ℕ) (Ω : List Lot) → AllByRecursion (LawfulLot C) Ω → has t (minutes Ω) ≡ true → t ≤ latest Ω
 minutes_inside C t [] ok h = absurd (false≢true h)
 minutes_inside C t (x ∷ xs) ok h = elim (or_cases (eqb t x.est) _ h) [
   | inl e ↦ omega (arith, eqb-true t x.est e, ok.0.has_time)

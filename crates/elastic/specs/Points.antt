@@ -1,7 +1,7 @@
 -- Tables of points: the minutes at which a profile changes, and by how much.
-use Rattle.std.specs.Prelude.{◌≡◌, ℕ, ◌+◌, ◌*◌, ◌≤◌, cond, ◌||◌, List, [], ◌∷◌, map, length, take, ℤ, pos, ◌+ℤ◌, neg_ℤ, ◌≤ℤ◌, ◌==◌, nat_le, slice_index_or}
+use Rattle.std.specs.Prelude.{◌≡◌, ℕ, ◌+◌, ◌*◌, cond, ◌||◌, List, [], ◌∷◌, map, length, take, ℤ, pos, ◌+ℤ◌, neg_ℤ, ◌≤ℤ◌, ◌==◌, nat_le, slice_index_or}
 use Rattle.std.specs.Cmp.{nat_cmp_total}
-use Rattle.std.specs.List.{AllByRecursion as All}
+use Rattle.std.specs.List.{AllByRecursion}
 use Rattle.lots.specs.Limits.{max_capacity, max_lots}
 use Rattle.lots.specs.Tables.{ect}
 use Rattle.lots.specs.declared.Lot.{Lot}
@@ -57,7 +57,7 @@ pub record Entered (ps : List Point) (e : Point) (qs : List Point) : Type 0 wher
   pub at : (t : ℕ) → has t (minutes_of qs) ≡ (t == e.minute || has t (minutes_of ps))
   pub available : (t : ℕ) → available_upto qs t ≡ available_upto ps t +ℤ cond (nat_le e.minute t) e.available (pos 0)
   pub required : (t : ℕ) → required_upto qs t ≡ required_upto ps t +ℤ cond (nat_le e.minute t) e.required (pos 0)
-  pub small : (a b : ℕ) → All (Small a) ps → Small b e → All (Small (a + b)) qs
+  pub small : (a b : ℕ) → AllByRecursion (Small a) ps → Small b e → AllByRecursion (Small (a + b)) qs
 
 -- the changes that a lot brings at its est, ect and lct
 abbrev pub at_est : Lot → Point
@@ -76,4 +76,4 @@ pub record Profiles (ps : List Point) (Ω : List Lot) : Type 0 where
   pub at : (t : ℕ) → has t (minutes_of ps) ≡ has t (minutes Ω)
   pub available : (t : ℕ) → available_upto ps t ≡ pos (profile.available Ω t)
   pub required : (t : ℕ) → required_upto ps t ≡ pos (creq Ω t)
-  pub small : All (Small (3 * max_capacity * length Ω)) ps
+  pub small : AllByRecursion (Small (3 * max_capacity * length Ω)) ps

@@ -1,4 +1,6 @@
 // The elastic profile of a list of lots, and how much of its work overflows the windows.
+#![tactic(auto)]
+
 ghost use Rattle.elastic.specs.Overflow.{Answered, FewPoints, NoneIfSchedulable};
 
 use lots::{Lot, Refusal, is_lawful};

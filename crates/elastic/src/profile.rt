@@ -1,6 +1,6 @@
 // The points of an elastic profile: the minutes at which it changes, and by how much.
 ghost use Rattle.std.specs.Prelude.{◌≡◌, ◌+◌, ◌-◌, ◌*◌, ◌<◌, ◌≤◌, min, List, [], ◌∷◌, ◌++◌, length, pos, ◌+ℤ◌, ◌≤ℤ◌, slice_set};
-ghost use Rattle.std.specs.List.{AllByRecursion as All};
+ghost use Rattle.std.specs.List.{AllByRecursion};
 ghost use Rattle.lots.specs.Limits.{horizon, max_capacity, max_lots};
 ghost use Rattle.lots.specs.Tables.{LawfulLot, Lawful};
 ghost use Rattle.lots.specs.declared.Lot.{Lot};
@@ -121,7 +121,7 @@ impl Profile {
     fn enter(&mut self, change: Point)
         requires free { length (used self.old) < max_points }
         requires rising { Rising (used self.old) }
-        requires small { All (Small (max_capacity * max_points)) (used self.old) }
+        requires small { AllByRecursion (Small (max_capacity * max_points)) (used self.old) }
         requires small_change { Small max_capacity change }
         ensures count { self.new.len ≡ length (used self.new) }
         ensures entered { Entered (used self.old) change (used self.new) }

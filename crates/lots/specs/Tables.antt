@@ -1,6 +1,6 @@
 -- Lots and lawful tables.
 use Rattle.std.specs.Prelude.{ℕ, ◌+◌, ◌-◌, ◌≤◌, List, length, slice_index_or}
-use Rattle.std.specs.List.{AllByRecursion as All}
+use Rattle.std.specs.List.{AllByRecursion}
 use Rattle.lots.specs.Limits.{horizon, max_capacity, max_lots}
 use Rattle.lots.specs.declared.Lot.{Lot}
 
@@ -29,4 +29,4 @@ pub record Lawful (C : ℕ) (T : List Lot) : Type 0 where
   pub some_trays : 1 ≤ C
   pub few_trays : C ≤ max_capacity
   pub few_lots : length T ≤ max_lots
-  pub each : All (LawfulLot C) T
+  pub each : AllByRecursion (LawfulLot C) T

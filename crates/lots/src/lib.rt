@@ -1,4 +1,6 @@
 // Lots, the law of their tables, and the numbers by which calls refuse.
+#![tactic(auto)]
+
 ghost use Rattle.std.specs.Prelude.{◌≡◌, ◌+◌, Decides};
 ghost use Rattle.lots.specs.Refusals.{refusal_number};
 ghost use Rattle.lots.specs.Tables.{ect as earliest_end, LawfulLot, Lawful};

@@ -5,7 +5,7 @@ use Rattle.lots.specs.Schedules.{load, Placed, Schedule}
 use Rattle.lots.specs.declared.Lot.{Lot}
 use Rattle.rule.specs.Meanings.{SameWork, Keeps}
 use Rattle.rule.proofs.Schedules.{schedule_same}
-use Rattle.rule.specs.Tables.{same_work_refl}
+use Rattle.rule.specs.Laws.Tables.{same_work_refl}
 
 placed_front : (xs zs : List Lot) (ss : List ℕ) → Placed (xs ++ zs) ss → Placed xs (take (length xs) ss)
 placed_front [] zs ss h = tt

@@ -2,7 +2,7 @@
 use Rattle.std.proofs.Common.{ℕ, List, [], ◌∷◌, refl}
 use mathlib.Core.Logic.{∥∥₁_elim}
 use native.Mathlib.Bridge.{le_prop}
-use Rattle.std.specs.List.{AllByRecursion as All}
+use Rattle.std.specs.List.{AllByRecursion}
 use Rattle.lots.specs.Tables.{LawfulLot, Lawful}
 use Rattle.lots.specs.declared.Lot.{Lot}
 
@@ -15,7 +15,7 @@ lawful_lot_prop C x a b = λ i. record {
   in_week = le_prop a.in_week b.in_week i;
 }
 
-all_lawful_prop : (C : ℕ) (T : List Lot) → IsProp (All (LawfulLot C) T)
+all_lawful_prop : (C : ℕ) (T : List Lot) → IsProp (AllByRecursion (LawfulLot C) T)
 all_lawful_prop C [] a b = refl
 all_lawful_prop C (x ∷ xs) a b = λ i. (lawful_lot_prop C x a.0 b.0 i, all_lawful_prop C xs a.1 b.1 i)
 

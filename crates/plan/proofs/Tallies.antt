@@ -6,7 +6,7 @@ use Rattle.lots.specs.Tables.{Lawful}
 use Rattle.lots.specs.declared.Lot.{Lot}
 use Rattle.rule.specs.Meanings.{SameWork, Keeps}
 use Rattle.rule.proofs.Chains.{Kept, kept_back, settled_kept}
-use Rattle.rule.specs.Tables.{same_work_sym, same_work_trans}
+use Rattle.rule.specs.Laws.Tables.{same_work_sym, same_work_trans}
 use Rattle.plan.specs.Tables.{Table, LawfulTable, ScheduleOf, SameSchedules, Best, empty, with_lot, with_between}
 use Rattle.plan.specs.Calls.{Passed, open_checks, narrow_checks}
 use Rattle.plan.specs.Book.{opening, admitting, narrowing, tightening, Entry, accepted, refused, enter}

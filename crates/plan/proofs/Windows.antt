@@ -9,7 +9,7 @@ use Rattle.lots.specs.Tables.{ect, lot_at, LawfulLot, Lawful}
 use Rattle.lots.specs.declared.Lot.{Lot}
 use Rattle.rule.specs.Meanings.{SameWork, Keeps}
 use Rattle.rule.proofs.Schedules.{schedule_same}
-use Rattle.rule.specs.Tables.{same_work_refl, same_work_sym, same_work_trans}
+use Rattle.rule.specs.Laws.Tables.{same_work_refl, same_work_sym, same_work_trans}
 use Rattle.plan.specs.Tables.{between}
 
 -- the lots, the one with the number i in at a or later and out by b

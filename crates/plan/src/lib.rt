@@ -1,4 +1,6 @@
 // A plan: the table of a machine's lots, which its calls alter in place and keep lawful.
+#![tactic(auto)]
+
 ghost use Rattle.std.specs.Prelude.{◌≤◌, take};
 ghost use Rattle.lots.specs.Limits.{max_lots};
 ghost use Rattle.lots.specs.Tables.{Lawful};

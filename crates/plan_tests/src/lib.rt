@@ -1,4 +1,5 @@
 // Plans tightened by the rules of the house: worked tables.
+#![tactic(auto)]
 
 #[cfg(test)]
 mod tests {

@@ -1,6 +1,6 @@
 -- Bounds that every schedule keeps may be raised to.
 use Rattle.std.proofs.Common.{◌≡◌, ℕ, suc, ◌+◌, ◌<◌, ◌≤◌, Bool, true, false, cond, ◌&&◌, leb, List, [], ◌∷◌, ◌++◌, length, get_or, take, drop, set, sym, refl, ap, ◌∙◌, subst, ap₂, add-zero, zero-add, add-one, arith}
-use Rattle.std.specs.List.{AllByRecursion as All}
+use Rattle.std.specs.List.{AllByRecursion}
 use Rattle.std.proofs.lemmas.Bool.{leb-true, and_parts, le-leb, and_from, true≢false}
 use Rattle.std.proofs.lemmas.List.{append-nil, append_assoc, take_all, drop_all, at_drop_more, drop_more, take_more, length-append, length-take-le, get_or_at, get_or-set_same, set_at, set-get_or}
 use Rattle.lots.specs.Schedules.{Placed, Schedule}
@@ -10,7 +10,7 @@ use Rattle.rule.specs.Meanings.{SameWork, Narrower, SameLaw, Keeps, Hopeless, Gi
 use Rattle.rule.specs.Raised.{later, later_all, all_fit, raise, Answers}
 use Rattle.rule.specs.declared.Verdict.{Verdict}
 use Rattle.rule.specs.declared.Verdict.TheVariants.{Still, Moved, Dead}
-use Rattle.rule.specs.Tables.{lot_path}
+use Rattle.rule.specs.Laws.Tables.{lot_path}
 use Rattle.rule.proofs.Schedules.{schedule_same}
 
 module _ (bound : ℕ → ℕ) where
@@ -26,7 +26,7 @@ module _ (bound : ℕ → ℕ) where
   later_length k [] = refl
   later_length k (x ∷ xs) = ap suc (later_length (suc k) xs)
 
-  later_lawful : (C k : ℕ) (T : List Lot) → All (LawfulLot C) T → all_fit (later_all bound k T) ≡ true → All (LawfulLot C) (later_all bound k T)
+  later_lawful : (C k : ℕ) (T : List Lot) → AllByRecursion (LawfulLot C) T → all_fit (later_all bound k T) ≡ true → AllByRecursion (LawfulLot C) (later_all bound k T)
   later_lawful C k [] ok fit = tt
   later_lawful C k (x ∷ xs) ok fit =
       let parts = and_parts (leb (ect (later (bound k) x)) x.lct) (all_fit (later_all bound (suc k) xs)) fit in (

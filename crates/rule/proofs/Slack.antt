@@ -1,15 +1,15 @@
 -- The room that is left to the starts of a table.
 use Rattle.std.proofs.Common.{◌≡◌, ℕ, ◌*◌, ◌<◌, ◌≤◌, List, [], ◌∷◌, length, refl, ap₂, inl, inr, arith}
 use Rattle.std.proofs.lemmas.Bool.{cases_lt}
-use Rattle.std.specs.List.{AllByRecursion as All}
+use Rattle.std.specs.List.{AllByRecursion}
 use Rattle.lots.specs.Tables.{LawfulLot, Lawful}
 use Rattle.rule.specs.Meanings.{SameWork, Narrower}
 use Rattle.lots.specs.declared.Lot.{Lot}
 use Rattle.rule.specs.Meanings.{Meaning, to, Sound}
 use Rattle.rule.specs.Settled.{slack}
 use Rattle.lots.specs.Limits.{horizon, max_lots}
-use Rattle.rule.specs.Outcomes.{gives_at}
-use Rattle.rule.specs.Tables.{lot_path}
+use Rattle.rule.specs.Laws.Outcomes.{gives_at}
+use Rattle.rule.specs.Laws.Tables.{lot_path}
 
 slack_le : (T U : List Lot) → SameWork T U → Narrower T U → slack U ≤ slack T
 slack_le [] [] w n = omega arith
@@ -17,7 +17,7 @@ slack_le [] (y ∷ ys) w n = absurd w
 slack_le (x ∷ xs) [] w n = absurd w
 slack_le (x ∷ xs) (y ∷ ys) w n = let h = slack_le xs ys w.1 n.1 in omega arith
 
-slack_same : (C : ℕ) (T U : List Lot) → All (LawfulLot C) T → All (LawfulLot C) U → SameWork T U → Narrower T U → slack T ≤ slack U → U ≡ T
+slack_same : (C : ℕ) (T U : List Lot) → AllByRecursion (LawfulLot C) T → AllByRecursion (LawfulLot C) U → SameWork T U → Narrower T U → slack T ≤ slack U → U ≡ T
 slack_same C [] [] f h w n s = refl
 slack_same C [] (y ∷ ys) f h w n s = absurd w
 slack_same C (x ∷ xs) [] f h w n s = absurd w
@@ -28,7 +28,7 @@ slack_same C (x ∷ xs) (y ∷ ys) f h w n s =
 pub slack_falls : (C : ℕ) (T U : List Lot) → Lawful C T → Lawful C U → SameWork T U → Narrower T U → (U ≡ T → ⊥) → slack U < slack T
 slack_falls C T U f h w n ne = elim (cases_lt (slack U) (slack T)) [ inl k ↦ k | inr k ↦ absurd (ne (slack_same C T U f.each h.each w n k)) ]
 
-slack_most : (C : ℕ) (T : List Lot) → All (LawfulLot C) T → slack T ≤ horizon * length T
+slack_most : (C : ℕ) (T : List Lot) → AllByRecursion (LawfulLot C) T → slack T ≤ horizon * length T
 slack_most C [] f = omega arith
 slack_most C (x ∷ xs) f = let h = slack_most C xs f.1 in omega arith
 

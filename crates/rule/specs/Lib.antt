@@ -4,8 +4,4 @@ pub mod Both
 pub mod Turned
 pub mod Settled
 pub mod Raised
-pub mod Sequence
-pub mod Tables
-pub mod Outcomes
-pub mod Mirror
-pub mod Turns
+pub mod Laws

@@ -1,6 +1,6 @@
 // Two rules, one after the other.
 ghost use Rattle.rule.specs.Both.{both as one_then_other};
-ghost use Rattle.rule.specs.Sequence.{both_sound};
+ghost use Rattle.rule.specs.Laws.Sequence.{both_sound};
 
 use crate::copies::{copied, restore};
 use crate::{Rule, Verdict};

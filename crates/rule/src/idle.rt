@@ -1,6 +1,6 @@
 // The rule that does nothing.
 ghost use Rattle.rule.specs.Idle.{idle as gives_back};
-ghost use Rattle.rule.specs.Tables.{idle_sound};
+ghost use Rattle.rule.specs.Laws.Tables.{idle_sound};
 
 use crate::{Rule, Verdict};
 use lots::{Lot, Refusal, is_lawful};

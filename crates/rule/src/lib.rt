@@ -1,4 +1,6 @@
 // What a rule is: it narrows the windows of a table and loses no schedule.
+#![tactic(auto)]
+
 ghost use Rattle.rule.specs.Meanings.{Meaning, Sound, Applied};
 
 use lots::{Lot, Refusal};

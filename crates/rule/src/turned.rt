@@ -1,8 +1,8 @@
 // A rule on the week read backwards: what it does to earliest starts, it then does to latest ends.
 ghost use Rattle.std.specs.Prelude.{◌≡◌, map};
-ghost use Rattle.std.specs.List.{AllByRecursion as All};
+ghost use Rattle.std.specs.List.{AllByRecursion};
 ghost use Rattle.rule.specs.Turned.{turn as turned_lot, InWeek, turned as turned_round, Alike};
-ghost use Rattle.rule.specs.Mirror.{turned_sound};
+ghost use Rattle.rule.specs.Laws.Mirror.{turned_sound};
 
 use crate::{Rule, Verdict};
 use lots::{HORIZON, Lot, Refusal, is_lawful};
@@ -26,7 +26,7 @@ fn turn_lot(lot: Lot) -> Lot
 
 // Turns every lot, whether a rule moved it or not.
 fn turn(lots: &mut [Lot])
-    requires { All InWeek lots.old }
+    requires { AllByRecursion InWeek lots.old }
     ensures { lots.new ≡ map turned_lot lots.old }
 {
     for lot in lots.iter_mut() {

@@ -1,7 +1,7 @@
 -- Cuts gathered from the front of a table.
 use Rattle.std.proofs.Common.{◌≡◌, ℕ, ◌+◌, ◌<◌, ◌≤◌, false, ◌||◌, eqb, List, [], length, take, sym, refl, ap, ◌∙◌, subst, arith}
 use Rattle.std.specs.Cmp.{nat_cmp_total}
-use Rattle.std.specs.List.{AllByRecursion as All}
+use Rattle.std.specs.List.{AllByRecursion}
 use Rattle.std.proofs.lemmas.List.Edits.{length-insert}
 use Rattle.std.proofs.ByRecursion.{All-append, All-take, All-drop}
 use Rattle.std.proofs.lemmas.List.{take_all, map_more, get_or-take, length-take-le}
@@ -25,7 +25,7 @@ end_of x = x.lct
 pub record SoFar (T : List Lot) (i : ℕ) (cs : List Cut) : Type 0 where
   pub rising : Ascending nat_cmp_total end_of cs
   pub ends : (t : ℕ) → has t (cut_ends cs) ≡ has t (ends_of (take i T))
-  pub each : All (Lowest T) cs
+  pub each : AllByRecursion (Lowest T) cs
   pub few : length cs ≤ i
 
 module _ (T : List Lot) (i : ℕ) (h : i < length T) (cs : List Cut) (g : SoFar T i cs) where
@@ -47,13 +47,13 @@ module _ (T : List Lot) (i : ℕ) (h : i < length T) (cs : List Cut) (g : SoFar 
   }
 
   module _ (cells cs' cells' : List Cut) (up : Ascending nat_cmp_total end_of cs') where
-    each_more : (r : Place) → Stored next cs cells cs' cells' r → Seated nat_cmp_total end_of next cs r → All (Lowest T) cs'
+    each_more : (r : Place) → Stored next cs cells cs' cells' r → Seated nat_cmp_total end_of next cs r → AllByRecursion (Lowest T) cs'
     each_more (Placed n) stored seated =
         let lacks = nowhere nat_cmp_total end_of cs (lot_at T i).lct n seated.0 seated.1 in
-        subst (All (Lowest T)) (sym stored.2)
+        subst (AllByRecursion (Lowest T)) (sym stored.2)
         (All-append (Lowest T) (take n cs) _ (All-take (Lowest T) n cs g.each) (lowest_here (lacks_key end_of cs (lot_at T i).lct lacks), All-drop (Lowest T) n cs g.each))
-    each_more (Present n) stored seated = subst (All (Lowest T)) (sym stored.1) g.each
-    each_more Full stored seated = subst (All (Lowest T)) (sym stored.1) g.each
+    each_more (Present n) stored seated = subst (AllByRecursion (Lowest T)) (sym stored.1) g.each
+    each_more Full stored seated = subst (AllByRecursion (Lowest T)) (sym stored.1) g.each
 
     few_more : (r : Place) → Stored next cs cells cs' cells' r → length cs' ≤ i + 1
     few_more (Placed n) stored = omega (arith, ap length stored.2, length-insert cs n next stored.0, g.few)

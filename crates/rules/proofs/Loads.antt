@@ -1,6 +1,6 @@
 -- The loads of the fixed parts, minute by minute, and what is read off them.
 use Rattle.std.proofs.Common.{◌≡◌, ℕ, zero, suc, ◌+◌, ◌-◌, ◌*◌, ◌<◌, ◌≤◌, Bool, true, false, cond, ◌&&◌, ltb, leb, List, [], ◌∷◌, ◌++◌, length, get_or, take, sym, ap, ◌∙◌, arith}
-use Rattle.std.specs.List.{AllByRecursion as All}
+use Rattle.std.specs.List.{AllByRecursion}
 use Rattle.std.proofs.lemmas.List.{take_more}
 use Rattle.std.proofs.lemmas.Bool.{and_from, and_left, and_right, le-leb, lt-leb, lt-ltb, le-ltb}
 use Rattle.std.proofs.lemmas.Bool.Decides.{nat_tests}
@@ -10,8 +10,8 @@ use Rattle.lots.specs.declared.Lot.{Lot}
 use Rattle.rule.specs.Meanings.{dead}
 use Rattle.rule.specs.Raised.{raise}
 use Rattle.rules.specs.TimeTable.{fixed, fixed_load, fixed_others, some_below, after_last, blocked_under, bound_of, time_table}
-use Rattle.rules.specs.FixedParts.{fixed_split}
-use Rattle.rules.specs.Searches.{some_same, after_last_none, after_last_same, after_last_here, after_last_before}
+use Rattle.rules.specs.Laws.FixedParts.{fixed_split}
+use Rattle.rules.specs.Laws.Searches.{some_same, after_last_none, after_last_same, after_last_here, after_last_before}
 use Rattle.rules.proofs.Raised.{raise_same}
 
 fixed_push : (T : List Lot) (x : Lot) (t : ℕ) → fixed_load (T ++ x ∷ []) t ≡ fixed_load T t + fixed x t
@@ -24,7 +24,7 @@ fixed_more T i t h = ap (λ xs. fixed_load xs t) (take_more T i _ h) ∙ fixed_p
 fixed_le : (x : Lot) (t : ℕ) → fixed x t ≤ x.c
 fixed_le x t = grind (arith, nat_tests)
 
-fixed_few : (T : List Lot) (t : ℕ) → All (LawfulLot max_capacity) T → fixed_load T t ≤ max_capacity * length T
+fixed_few : (T : List Lot) (t : ℕ) → AllByRecursion (LawfulLot max_capacity) T → fixed_load T t ≤ max_capacity * length T
 fixed_few [] t ok = omega arith
 fixed_few (x ∷ xs) t ok = omega (arith, fixed_le x t, ok.0.has_trays, fixed_few xs t ok.1)
 

@@ -1,7 +1,7 @@
 -- The distinct latest ends of a table.
 use Rattle.std.specs.Prelude.{◌≡◌, ℕ, ◌<◌, List, map, length, take, ◌≢◌, slice_index_or}
 use Rattle.std.specs.Cmp.{nat_cmp_total}
-use Rattle.std.specs.List.{AllByRecursion as All}
+use Rattle.std.specs.List.{AllByRecursion}
 use Rattle.lots.specs.Tables.{lot_at}
 use Rattle.lots.specs.declared.Lot.{Lot}
 use Rattle.elastic.specs.Profile.{has}
@@ -25,7 +25,7 @@ pub record Lowest (T : List Lot) (x : Cut) : Type 0 where
 pub record CutsOf (T : List Lot) (cs : List Cut) : Type 0 where
   pub rising : Ascending nat_cmp_total (λ x. x.lct) cs
   pub ends : (t : ℕ) → has t (cut_ends cs) ≡ has t (ends_of T)
-  pub each : All (Lowest T) cs
+  pub each : AllByRecursion (Lowest T) cs
 
 abbrev pub cuts_in : Cuts → List Cut
 cuts_in g = take g.len g.cuts

@@ -4,10 +4,4 @@ pub mod Overload
 pub mod TimeTable
 pub mod NotFirst
 pub mod House
-pub mod HouseSound
-pub mod NotFirstSound
-pub mod ChosenLots
-pub mod OverloadSound
-pub mod TimeTables
-pub mod Searches
-pub mod FixedParts
+pub mod Laws

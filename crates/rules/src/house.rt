@@ -1,6 +1,6 @@
 // The pile that the house uses.
 ghost use Rattle.rules.specs.House.{house as the_house};
-ghost use Rattle.rules.specs.HouseSound.{house_sound};
+ghost use Rattle.rules.specs.Laws.HouseSound.{house_sound};
 
 use crate::{NotFirst, Overload, TimeTable};
 use lots::{Lot, Refusal};

@@ -1,4 +1,6 @@
 // The rules of the house.
+#![tactic(auto)]
+
 mod chosen;
 mod cuts;
 mod house;

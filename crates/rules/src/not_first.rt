@@ -6,7 +6,7 @@ ghost use Rattle.elastic.specs.Profile.{earliest, has};
 ghost use Rattle.rules.specs.Chosen.{held};
 ghost use Rattle.rules.specs.Cuts.{ends_of, cut_ends};
 ghost use Rattle.rules.specs.NotFirst.{in_cut, cut as the_cut, least_ect, stand_in, end_bound, greatest_end_bound, not_first as starts_after_some};
-ghost use Rattle.rules.specs.NotFirstSound.{not_first_sound};
+ghost use Rattle.rules.specs.Laws.NotFirstSound.{not_first_sound};
 
 use crate::chosen::Chosen;
 use crate::cuts::{Cut, Cuts};

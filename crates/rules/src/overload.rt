@@ -5,7 +5,7 @@ ghost use Rattle.lots.specs.Tables.{Lawful};
 ghost use Rattle.rules.specs.Chosen.{held};
 ghost use Rattle.rules.specs.Cuts.{cut_ends};
 ghost use Rattle.rules.specs.Overload.{due, some_overfull as overfull_at_some, overload as dead_if_overfull};
-ghost use Rattle.rules.specs.OverloadSound.{overload_sound};
+ghost use Rattle.rules.specs.Laws.OverloadSound.{overload_sound};
 
 use crate::chosen::Chosen;
 use crate::cuts::{Cut, Cuts};

@@ -3,7 +3,7 @@ ghost use Rattle.std.specs.Prelude.{◌≡◌, ℕ, ◌+◌, ◌*◌, ◌<◌, �
 ghost use Rattle.lots.specs.Limits.{horizon, max_capacity, max_lots};
 ghost use Rattle.lots.specs.Tables.{ect as earliest_end, lst as latest_start, LawfulLot, Lawful};
 ghost use Rattle.rules.specs.TimeTable.{fixed as fixed_part, fixed_load, some_below, after_last, blocked_under, bound_of, time_table as raises_past_blocked};
-ghost use Rattle.rules.specs.TimeTables.{time_table_sound};
+ghost use Rattle.rules.specs.Laws.TimeTables.{time_table_sound};
 
 use lots::{HORIZON, Lot, MAX_LOTS, Refusal, is_lawful};
 use rule::{Rule, Verdict, raise};

@@ -3,7 +3,7 @@ use Rattle.std.proofs.lemmas.Bool.{false≢true}
 use Rattle.std.proofs.ByRecursion.{All-more, All-get_or}
 use Rattle.std.proofs.lemmas.List.{take_all}
 use Rattle.std.proofs.lemmas.Bool.Decides.{not_from_Decides}
-use Rattle.std.specs.List.{AllByRecursion as All}
+use Rattle.std.specs.List.{AllByRecursion}
 use Rattle.lots.specs.Tables.{LawfulLot}
 use Rattle.lots.proofs.is_lawful.Goals as goal
 use Rattle.lots.proofs.is_lawful.Goals.{then-number-ge-MAX_LOTS-via-then-number-ge-MAX_LOTS, then-number-ge-MAX_LOTS-via-else-number-ge-MAX_LOTS+then-not-is_lawful}
@@ -30,7 +30,7 @@ returns c = (
     some_trays = omega arith;
     few_trays = omega arith;
     few_lots = omega arith;
-    each = subst (All (LawfulLot c.args.capacity)) (take_all _ _ c.loop-number-test.false) c.loop-number.invariant.1;
+    each = subst (AllByRecursion (LawfulLot c.args.capacity)) (take_all _ _ c.loop-number-test.false) c.loop-number.invariant.1;
   },
   λ _. refl,
 )

@@ -10,16 +10,16 @@ use Rattle.console.proofs.calls.call.Goals.{In-Some}
 named : (c : goal.In-Some) → pieces space c.args.line.now ≡ c.in-Some.name.now ∷ to_come c.next.new.self
 named c =
     let split = c.split-words.ensures in
-    first_piece c.split-words.result c.next.new.self c.in-Some.name space c.args.line.now (split.text ∙ c.in-Ok.ensures.cases.0) split.Has-more split.callee (omega arith) c.in-Some.ensures.steps
+    first_piece c.split-words.result c.next.new.self c.in-Some.name space c.args.line.now (split.text ∙ c.in-Ok.ensures.cases.0) split.has_more split.pattern (omega arith) c.in-Some.ensures.steps
 
-pub returns-in-default : goal.returns-in-default
-returns-in-default c = λ known. c.in-default.ensures.cases.0 (text_from_known c.args.line.now known)
+pub returns-in_default : goal.returns-in_default
+returns-in_default c = λ known. c.in_default.ensures.cases.0 (text_from_known c.args.line.now known)
 
 pub returns-in-overflow : goal.returns-in-overflow
 returns-in-overflow c = rw (named (goal.at.returns-in-overflow c).In-Some, c.in-overflow.is) c.overflow.ensures
 
-pub returns-in-default-name : goal.returns-in-default-name
-returns-in-default-name c = rw (named (goal.at.returns-in-default-name c).In-Some) (unknown_name c.in-Some.name.now (to_come c.next.new.self) c.in-default-name.not_overflow c.in-default-name.not_rule)
+pub returns-in_default-name : goal.returns-in_default-name
+returns-in_default-name c = rw (named (goal.at.returns-in_default-name c).In-Some) (unknown_name c.in-Some.name.now (to_come c.next.new.self) c.in_default-name.not-overflow c.in_default-name.not-rule)
 
 pub returns-in-rule : goal.returns-in-rule
 returns-in-rule c = rw (named (goal.at.returns-in-rule c).In-Some, c.in-rule.is) c.rule.ensures

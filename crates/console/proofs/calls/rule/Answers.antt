@@ -18,19 +18,19 @@ all-filled n xs ys count = take-append-le n xs ys (omega (arith, count)) ∙ tak
 applied-through : (m : Meaning) (C : ℕ) (items slice after left : List Lot) (r : Result Verdict Refusal) → slice ≡ items → left ≡ after → Applied m C slice after r → Applied m C items left r
 applied-through m C items slice after left r before gone applied = subst (λ (T : List Lot). Applied m C T left r) before (subst (λ (U : List Lot). Applied m C slice U r) (sym gone) applied)
 
-pub returns-in-err-capacity : goal.returns-in-err-capacity
-returns-in-err-capacity c =
-    let fault = err_from_is_err_and c.from-residual.result c.from-residual.ensures.1 in
-    rw (fault.1, fault.2) (rule_unread (to_come c.args.words) _ (rw c.in-Some.ensures.others at c.in-err-capacity.ensures))
+pub returns-in_err-capacity : goal.returns-in_err-capacity
+returns-in_err-capacity c =
+    let fault = err_from_is_err_and c.from_residual.result c.from_residual.ensures.1 in
+    rw (fault.1, fault.2) (rule_unread (to_come c.args.words) _ (rw c.in-Some.ensures.others at c.in_err-capacity.ensures))
 
 pub returns : goal.returns
 returns c =
-    let lots = c.in-ok-capacity.lots in
+    let lots = c.in_ok-capacity.lots in
     let after = c.apply.new.lots in
     let count : length after ≡ lots.len = search rules in (
       c.in-Some.pile,
-      c.in-ok-capacity.capacity,
+      c.in_ok-capacity.capacity,
       vec_items lots,
-      (refl, c.in-Some.ensures.answer, rw c.in-Some.ensures.others at c.in-ok-capacity.ensures),
-      applied-through (pile_meaning c.in-Some.pile) c.in-ok-capacity.capacity _ _ _ _ (Ok c.in-ok-verdict.verdict) c.as-mut-slice.ensures.value (all-filled lots.len after (drop (length after) lots.items) count) c.in-ok-verdict.ensures,
+      (refl, c.in-Some.ensures.answer, rw c.in-Some.ensures.others at c.in_ok-capacity.ensures),
+      applied-through (pile_meaning c.in-Some.pile) c.in_ok-capacity.capacity _ _ _ _ (Ok c.in_ok-verdict.verdict) c.as_mut_slice.ensures.value (all-filled lots.len after (drop (length after) lots.items) count) c.in_ok-verdict.ensures,
     )

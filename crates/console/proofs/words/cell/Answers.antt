@@ -6,4 +6,4 @@ use Rattle.console.proofs.words.cell.Goals as goal
 pub returns : goal.returns
 returns c =
     let split = c.split.ensures in
-    cell_from_numbers c.args.word.now (to_come c.split.result) _ (pieces_of_split c.split.result comma c.args.word.now split.text split.Has-more split.pattern) c.in-ok-est.ensures
+    cell_from_numbers c.args.word.now (to_come c.split.result) _ (pieces_of_split c.split.result comma c.args.word.now split.text split.has_more split.pattern) c.in_ok-est.ensures

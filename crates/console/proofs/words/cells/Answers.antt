@@ -8,7 +8,7 @@ pub loop-word-preserved : goal.loop-word-preserved
 loop-word-preserved c =
     let inv = c.loop-word.invariant in
     let first = next_piece c.loop-word.word-iterator c.next.new.self (Some c.in-Some.word) inv.0 c.in-Some.ensures.steps in
-    (rw first.1 inv.0, rw c.in-ok-push.ensures.items (one_more_read Cell _ _ _ _ _ (rw first.0 at inv.1) c.in-Some-cell.ensures))
+    (rw first.1 inv.0, rw c.in_ok-push-in-Some-cell.ensures.items (one_more_read Cell _ _ _ _ _ (rw first.0 at inv.1) c.in-Some-cell.ensures))
 
 pub returns-in-None-cell : goal.returns-in-None-cell
 returns-in-None-cell c =

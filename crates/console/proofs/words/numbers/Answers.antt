@@ -12,16 +12,16 @@ loop-slot-init g c = (c.requires, length-replicate g.row.N 0, none_read Number (
 pub loop-slot-preserved : goal.loop-slot-preserved
 loop-slot-preserved g c =
     let inv = c.loop-slot.invariant in
-    let next = c.in-ok-slot.ensures in
+    let next = c.in_ok-slot.ensures in
     let within : c.loop-slot.slot-index < length c.loop-slot.slot-items = omega arith in
     (rw next.same inv.0, rw length-set inv.1, rw (next.others, take_more_set) (number_read _ _ _ _ inv.2 next.answer))
 
-pub returns-in-err-slot : goal.returns-in-err-slot
-returns-in-err-slot g c =
+pub returns-in_err-slot : goal.returns-in_err-slot
+returns-in_err-slot g c =
     let inv = c.loop-slot.invariant in
     let read = take c.loop-slot.slot-index c.loop-slot.slot-items in
     let count : length read ≡ c.loop-slot.slot-index = length-take-le c.loop-slot.slot-index c.loop-slot.slot-items (omega arith) in
-    rw c.from-residual.ensures (λ ns is. no_number_next _ _ read ns inv.2 c.in-err-slot.ensures.answer (omega arith) is.1)
+    rw c.from_residual.ensures (λ ns is. no_number_next _ _ read ns inv.2 c.in_err-slot.ensures.answer (omega arith) is.1)
 
 pub returns-in-None : goal.returns-in-None
 returns-in-None g c =

@@ -3,7 +3,7 @@ use Rattle.std.proofs.lemmas.List.Edits.{map_over_more}
 use Rattle.std.proofs.ByRecursion.{All-get_or}
 use Rattle.std.proofs.lemmas.List.{take_all, drop_all, get_or_default}
 use Rattle.rule.specs.Turned.{turn, InWeek}
-use Rattle.rule.specs.Turns.{not_yet}
+use Rattle.rule.specs.Laws.Turns.{not_yet}
 use Rattle.rule.proofs.turned.turn.Goals as goal
 
 pub turn_lot-requires : goal.turn_lot-requires

@@ -1,7 +1,7 @@
 use Rattle.std.proofs.Common.{min, ◌++◌, length, sym, ap, ◌∙◌, subst, arith}
 use Rattle.lots.specs.Tables.{ect, lot_at, Lawful}
 use Rattle.rules.specs.NotFirst.{stand_in, least_ect}
-use Rattle.rules.specs.NotFirstSound.{cut_fewer, lot_ends, cut_least, with_stand_in_lawful}
+use Rattle.rules.specs.Laws.NotFirstSound.{cut_fewer, lot_ends, cut_least, with_stand_in_lawful}
 use Rattle.rules.proofs.not_first.bound_at.Goals as goal
 
 pub add_stand_in-requires : goal.add_stand_in-requires

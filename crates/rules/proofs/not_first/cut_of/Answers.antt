@@ -3,7 +3,7 @@ use Rattle.std.proofs.lemmas.List.{take_all, length_push}
 use Rattle.lots.specs.Tables.{lot_at}
 use Rattle.rules.specs.Chosen.{chosen, held}
 use Rattle.rules.specs.NotFirst.{in_cut}
-use Rattle.rules.specs.ChosenLots.{chosen_takes, chosen_skips}
+use Rattle.rules.specs.Laws.ChosenLots.{chosen_takes, chosen_skips}
 use Rattle.rules.proofs.not_first.cut_of.Goals as goal
 use Rattle.rules.proofs.not_first.cut_of.Goals.{then-is_in_cut, else-is_in_cut}
 

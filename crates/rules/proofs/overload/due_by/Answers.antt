@@ -4,7 +4,7 @@ use Rattle.std.proofs.lemmas.Bool.{le-leb, lt-leb}
 use Rattle.lots.specs.declared.Lot.{Lot}
 use Rattle.rules.specs.Chosen.{held}
 use Rattle.rules.specs.Overload.{due}
-use Rattle.rules.specs.ChosenLots.{chosen_takes, chosen_skips}
+use Rattle.rules.specs.Laws.ChosenLots.{chosen_takes, chosen_skips}
 use Rattle.rules.proofs.overload.due_by.Goals as goal
 use Rattle.rules.proofs.overload.due_by.Goals.{then-lot-minute, else-lot-minute}
 

@@ -4,8 +4,8 @@ use Rattle.lots.specs.Tables.{Lawful}
 use Rattle.rules.specs.Cuts.{cut_ends}
 use Rattle.rules.specs.Overload.{some_overfull}
 use Rattle.rules.specs.declared.cuts.Cut.{Cut}
-use Rattle.rules.specs.ChosenLots.{chosen_lawful}
-use Rattle.rules.specs.OverloadSound.{some_found, some_on}
+use Rattle.rules.specs.Laws.ChosenLots.{chosen_lawful}
+use Rattle.rules.specs.Laws.OverloadSound.{some_found, some_on}
 use Rattle.rules.proofs.overload.some_overfull.Goals as goal
 
 pub is_overfull-requires : goal.is_overfull-requires

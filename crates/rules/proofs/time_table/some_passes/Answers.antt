@@ -1,6 +1,6 @@
 use Rattle.std.proofs.Common.{sym, arith}
 use Rattle.std.proofs.lemmas.Bool.{lt-ltb}
-use Rattle.rules.specs.Searches.{some_none, some_here}
+use Rattle.rules.specs.Laws.Searches.{some_none, some_here}
 use Rattle.rules.proofs.time_table.some_passes.Goals as goal
 
 pub returns-then-load-capacity : goal.returns-then-load-capacity

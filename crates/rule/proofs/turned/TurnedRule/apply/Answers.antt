@@ -2,9 +2,9 @@ use Rattle.std.proofs.Common.{sym, subst}
 use Rattle.lots.specs.Tables.{Lawful}
 use Rattle.rule.specs.Meanings.{Applied}
 use Rattle.rule.specs.Turned.{turned}
-use Rattle.rule.specs.Mirror.{turned_applied}
-use Rattle.rule.specs.Outcomes.{applied_lawful}
-use Rattle.rule.specs.Turns.{lawful_week, turn_lawful}
+use Rattle.rule.specs.Laws.Mirror.{turned_applied}
+use Rattle.rule.specs.Laws.Outcomes.{applied_lawful}
+use Rattle.rule.specs.Laws.Turns.{lawful_week, turn_lawful}
 use Rattle.rule.proofs.turned.TurnedRule.apply.Goals as goal
 
 pub turn-requires : goal.turn-requires

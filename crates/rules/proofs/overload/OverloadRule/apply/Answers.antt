@@ -1,7 +1,7 @@
 use Rattle.std.proofs.Common.{◌≤◌, true, false, refl, arith, rules}
 use Rattle.std.proofs.lemmas.List.{length-take}
 use Rattle.lots.specs.Limits.{max_lots}
-use Rattle.rules.specs.OverloadSound.{overload_by_cuts}
+use Rattle.rules.specs.Laws.OverloadSound.{overload_by_cuts}
 use Rattle.rules.proofs.overload.OverloadRule.apply.Goals as goal
 
 pub slice_bounds-some_overfull-end : goal.slice_bounds-some_overfull-end

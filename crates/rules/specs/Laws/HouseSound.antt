@@ -1,11 +1,11 @@
 -- The house pile is sound.
 use Rattle.rule.specs.Meanings.{Sound}
-use Rattle.rule.specs.Mirror.{turned_sound}
-use Rattle.rule.specs.Sequence.{both_sound}
+use Rattle.rule.specs.Laws.Mirror.{turned_sound}
+use Rattle.rule.specs.Laws.Sequence.{both_sound}
 use Rattle.rules.specs.House.{house}
-use Rattle.rules.specs.NotFirstSound.{not_first_sound}
-use Rattle.rules.specs.OverloadSound.{overload_sound}
-use Rattle.rules.specs.TimeTables.{time_table_sound}
+use Rattle.rules.specs.Laws.NotFirstSound.{not_first_sound}
+use Rattle.rules.specs.Laws.OverloadSound.{overload_sound}
+use Rattle.rules.specs.Laws.TimeTables.{time_table_sound}
 
 pub house_sound : Sound house
 house_sound =

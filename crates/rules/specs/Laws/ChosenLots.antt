@@ -1,7 +1,7 @@
 -- What holds of a table holds of some of its lots.
 use Rattle.std.specs.Prelude.{◌≡◌, ℕ, zero, suc, ◌+◌, ◌<◌, ◌≤◌, Bool, true, false, cond, List, [], ◌∷◌, ◌++◌, length, take, refl}
 use Rattle.std.proofs.Common.{sym, ap, subst, ◌∙◌, zero-add, add-zero, arith}
-use Rattle.std.specs.List.{AllByRecursion as All}
+use Rattle.std.specs.List.{AllByRecursion}
 use Rattle.std.proofs.lemmas.List.{append-nil, take_more, length-take-le}
 use Rattle.std.proofs.lemmas.Bool.{cond_both}
 use Rattle.lots.specs.Schedules.{spans, load, Placed, Schedule}
@@ -41,9 +41,9 @@ module _ (test : ℕ → Lot → Bool) where
     within = λ t. omega (arith, chosen_load t 0 T ss s.placed, s.within t);
   }
 
-  pub chosen_each : (P : Lot → Type 0) (k : ℕ) (T : List Lot) → All P T → All P (chosen test k T)
+  pub chosen_each : (P : Lot → Type 0) (k : ℕ) (T : List Lot) → AllByRecursion P T → AllByRecursion P (chosen test k T)
   chosen_each P k [] h = tt
-  chosen_each P k (x ∷ xs) h = cond_both (test k x) (x ∷ chosen test (suc k) xs) (chosen test (suc k) xs) (All P) (λ e. (h.0, chosen_each P (suc k) xs h.1)) (λ e. chosen_each P (suc k) xs h.1)
+  chosen_each P k (x ∷ xs) h = cond_both (test k x) (x ∷ chosen test (suc k) xs) (chosen test (suc k) xs) (AllByRecursion P) (λ e. (h.0, chosen_each P (suc k) xs h.1)) (λ e. chosen_each P (suc k) xs h.1)
 
   pub chosen_few : (k : ℕ) (T : List Lot) → length (chosen test k T) ≤ length T
   chosen_few k [] = omega arith

@@ -9,12 +9,12 @@ use Rattle.lots.specs.declared.Lot.{Lot}
 use Rattle.elastic.specs.Profile.{overflow, has}
 use Rattle.elastic.proofs.Soundness.{overflow_of_schedulable}
 use Rattle.rule.specs.Meanings.{Narrower, SameLaw, Keeps, Hopeless, Sound, Gives, Dies, dead, to}
-use Rattle.rule.specs.Tables.{same_work_refl, narrower_refl}
+use Rattle.rule.specs.Laws.Tables.{same_work_refl, narrower_refl}
 use Rattle.rules.specs.Chosen.{chosen, overfull}
 use Rattle.rules.specs.Cuts.{ends_of, cut_ends, cut_at, CutsOf}
 use Rattle.rules.specs.Overload.{due, some_overfull, overload}
 use Rattle.rules.specs.declared.cuts.Cut.{Cut}
-use Rattle.rules.specs.ChosenLots.{chosen_schedule}
+use Rattle.rules.specs.Laws.ChosenLots.{chosen_schedule}
 
 -- lots of which some are overfull have no schedule
 pub overfull_hopeless : (test : ℕ → Lot → Bool) (C : ℕ) (T : List Lot) → overfull C (chosen test 0 T) ≡ true → Hopeless C T

@@ -3,7 +3,7 @@ use Rattle.std.specs.Prelude.{◌≡◌, ℕ, ◌+◌, ◌-◌, ◌<◌, ◌≤�
 use Rattle.std.proofs.Common.{inl, inr, sym, ap, ap₂, subst, ◌∙◌, arith}
 use Rattle.std.proofs.lemmas.Bool.{cases_lt}
 use Rattle.std.proofs.lemmas.Bool.Decides.{nat_tests}
-use Rattle.std.specs.List.{AllByRecursion as All}
+use Rattle.std.specs.List.{AllByRecursion}
 use Rattle.lots.specs.Tables.{Lawful}
 use Rattle.lots.specs.Schedules.{spans, load, Placed, Schedule}
 use Rattle.rule.specs.Meanings.{SameWork, Narrower}
@@ -12,23 +12,23 @@ use Rattle.lots.specs.declared.Lot.{Lot}
 use Rattle.rule.specs.declared.Verdict.{Verdict}
 use Rattle.rule.specs.declared.Verdict.TheVariants.{Still, Moved, Dead}
 use Rattle.lots.specs.declared.Refusal.{Refusal}
-use Rattle.rule.specs.Outcomes.{gives_at}
+use Rattle.rule.specs.Laws.Outcomes.{gives_at}
 use Rattle.lots.specs.Limits.{horizon}
 use Rattle.rule.specs.Turned.{turn, InWeek, turn_outcome, turned, Alike}
-use Rattle.rule.specs.Turns.{turn_turn, lawful_week, turn_lawful, turn_same_work, turn_narrower}
+use Rattle.rule.specs.Laws.Turns.{turn_turn, lawful_week, turn_lawful, turn_same_work, turn_narrower}
 
 abbrev pub mirror : List Lot → List ℕ → List ℕ
 mirror [] ss = []
 mirror (x ∷ xs) [] = []
 mirror (x ∷ xs) (s ∷ ss) = (horizon - (s + x.p)) ∷ mirror xs ss
 
-mirror_placed : (T : List Lot) (ss : List ℕ) → All InWeek T → Placed T ss → Placed (map turn T) (mirror T ss)
+mirror_placed : (T : List Lot) (ss : List ℕ) → AllByRecursion InWeek T → Placed T ss → Placed (map turn T) (mirror T ss)
 mirror_placed [] [] h p = tt
 mirror_placed [] (s ∷ ss) h p = absurd p
 mirror_placed (x ∷ xs) [] h p = absurd p
 mirror_placed (x ∷ xs) (s ∷ ss) h p = (omega arith, mirror_placed xs ss h.1 p.1)
 
-mirror_mirror : (T U : List Lot) (ss : List ℕ) → All InWeek T → Placed T ss → SameWork (map turn T) U → mirror U (mirror T ss) ≡ ss
+mirror_mirror : (T U : List Lot) (ss : List ℕ) → AllByRecursion InWeek T → Placed T ss → SameWork (map turn T) U → mirror U (mirror T ss) ≡ ss
 mirror_mirror [] [] [] h p w = refl
 mirror_mirror [] [] (s ∷ ss) h p w = absurd p
 mirror_mirror [] (y ∷ ys) ss h p w = absurd w
@@ -42,19 +42,19 @@ spans_mirror t s p h k = grind (arith, nat_tests)
 spans_late : (t s p : ℕ) → horizon ≤ t → s + p ≤ horizon → spans (horizon - (s + p)) (horizon - (s + p) + p) t ≡ false
 spans_late t s p h k = grind (arith, nat_tests)
 
-load_mirror : (t : ℕ) (T : List Lot) (ss : List ℕ) → t < horizon → All InWeek T → Placed T ss → load t (map turn T) (mirror T ss) ≡ load (horizon - 1 - t) T ss
+load_mirror : (t : ℕ) (T : List Lot) (ss : List ℕ) → t < horizon → AllByRecursion InWeek T → Placed T ss → load t (map turn T) (mirror T ss) ≡ load (horizon - 1 - t) T ss
 load_mirror t [] ss k h p = refl
 load_mirror t (x ∷ xs) [] k h p = refl
 load_mirror t (x ∷ xs) (s ∷ ss) k h p =
     ap₂ ◌+◌ (ap (λ b. cond b x.c 0) (spans_mirror t s x.p k (omega arith))) (load_mirror t xs ss k h.1 p.1)
 
-load_late : (t : ℕ) (T : List Lot) (ss : List ℕ) → horizon ≤ t → All InWeek T → Placed T ss → load t (map turn T) (mirror T ss) ≡ 0
+load_late : (t : ℕ) (T : List Lot) (ss : List ℕ) → horizon ≤ t → AllByRecursion InWeek T → Placed T ss → load t (map turn T) (mirror T ss) ≡ 0
 load_late t [] ss k h p = refl
 load_late t (x ∷ xs) [] k h p = refl
 load_late t (x ∷ xs) (s ∷ ss) k h p =
     ap₂ ◌+◌ (ap (λ b. cond b x.c 0) (spans_late t s x.p k (omega arith))) (load_late t xs ss k h.1 p.1)
 
-pub mirrored : (C : ℕ) (T : List Lot) (ss : List ℕ) → All InWeek T → Schedule C T ss → Schedule C (map turn T) (mirror T ss)
+pub mirrored : (C : ℕ) (T : List Lot) (ss : List ℕ) → AllByRecursion InWeek T → Schedule C T ss → Schedule C (map turn T) (mirror T ss)
 mirrored C T ss h s = record {
   placed = mirror_placed T ss h s.placed;
   within = λ t. elim (cases_lt t horizon) [
@@ -64,7 +64,7 @@ mirrored C T ss h s = record {
 }
 
 module _ (C : ℕ) (T : List Lot) (ok : Lawful C T) where
-  week : All InWeek T
+  week : AllByRecursion InWeek T
   week = lawful_week C T ok
 
   turned_lawful : (o : Outcome) → Gives o (SameLaw C (map turn T)) → Gives (turn_outcome o) (SameLaw C T)

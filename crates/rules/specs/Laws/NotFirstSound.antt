@@ -1,7 +1,7 @@
 -- Not-first loses no schedule.
 use Rattle.std.specs.Prelude.{◌≡◌, ℕ, zero, suc, ◌+◌, ◌-◌, ◌<◌, ◌≤◌, min, Bool, true, false, cond, not, ◌&&◌, List, [], ◌∷◌, ◌++◌, length, ◌==◌, nat_le, nat_lt, slice_index, slice_index_or, refl}
 use Rattle.std.proofs.Common.{inl, inr, sym, ap, subst, add-zero, zero-add, arith}
-use Rattle.std.specs.List.{AllByRecursion as All}
+use Rattle.std.specs.List.{AllByRecursion}
 use Rattle.std.proofs.ByRecursion.{All-get_or, All-append}
 use Rattle.std.proofs.lemmas.List.{append-nil, length-append}
 use Rattle.std.proofs.lemmas.Bool.{eq-eqb, cases_lt, and_parts, ltb-true, leb-false}
@@ -16,7 +16,7 @@ use Rattle.rule.specs.Meanings.{Sound}
 use Rattle.rule.proofs.Raises.{raise_lawful, raise_narrows, raise_keeps, raise_dies}
 use Rattle.rules.specs.Chosen.{chosen, overfull}
 use Rattle.rules.specs.NotFirst.{in_cut, cut, least_ect, with_stand_in, bound_by, greatest_bound, not_first}
-use Rattle.rules.specs.ChosenLots.{starts, load_cond, chosen_placed, chosen_load, chosen_schedule, chosen_fewer, chosen_lawful}
+use Rattle.rules.specs.Laws.ChosenLots.{starts, load_cond, chosen_placed, chosen_load, chosen_schedule, chosen_fewer, chosen_lawful}
 
 -- two lists of lots, each with its starts
 placed_append : (xs ys : List Lot) (ss us : List ℕ) → Placed xs ss → Placed ys us → Placed (xs ++ ys) (ss ++ us)
@@ -35,7 +35,7 @@ runs_on : (t u s p c e : ℕ) → t ≤ u → u < e → e ≤ s + p → cond (sp
 runs_on t u s p c e h k l = grind (arith, nat_tests)
 
 -- lots that cannot be out by u still run at u where they ran before
-load_later : (t u : ℕ) (Ω : List Lot) (ss : List ℕ) → t ≤ u → All (λ x. u < ect x) Ω → Placed Ω ss → load t Ω ss ≤ load u Ω ss
+load_later : (t u : ℕ) (Ω : List Lot) (ss : List ℕ) → t ≤ u → AllByRecursion (λ x. u < ect x) Ω → Placed Ω ss → load t Ω ss ≤ load u Ω ss
 load_later t u [] ss h a p = omega arith
 load_later t u (x ∷ xs) [] h a p = omega arith
 load_later t u (x ∷ xs) (s ∷ ss) h a p =
@@ -61,7 +61,7 @@ placed_start (x ∷ xs) [] i h p = absurd p
 placed_start (x ∷ xs) (s ∷ ss) zero h p = p.0
 placed_start (x ∷ xs) (s ∷ ss) (suc i) h p = placed_start xs ss i (omega arith) p.1
 
-least_below : (u : ℕ) (Ω : List Lot) → u < least_ect Ω → All (λ x. u < ect x) Ω
+least_below : (u : ℕ) (Ω : List Lot) → u < least_ect Ω → AllByRecursion (λ x. u < ect x) Ω
 least_below u [] h = tt
 least_below u (x ∷ []) h = (h, tt)
 least_below u (x ∷ (y ∷ ys)) h = (omega arith, least_below u (y ∷ ys) (omega arith))
@@ -171,7 +171,7 @@ module _ (C : ℕ) (T : List Lot) (ok : Lawful C T) (i : ℕ) (h : i < length T)
   cut_lawful : Lawful C (cut T i t)
   cut_lawful = chosen_lawful (in_cut i (lot_at T i).est t) C T ok
 
-  least_in_week : (Ω : List Lot) → All (LawfulLot C) Ω → least_ect Ω ≤ horizon
+  least_in_week : (Ω : List Lot) → AllByRecursion (LawfulLot C) Ω → least_ect Ω ≤ horizon
   least_in_week [] a = omega arith
   least_in_week (x ∷ []) a = omega (arith, a.0.has_time, a.0.in_week)
   least_in_week (x ∷ (y ∷ ys)) a = omega (arith, a.0.has_time, a.0.in_week)

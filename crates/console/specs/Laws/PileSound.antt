@@ -1,11 +1,11 @@
 -- Every pile that a word can name is sound.
 use Rattle.rule.specs.Meanings.{Sound}
-use Rattle.rule.specs.Mirror.{turned_sound}
-use Rattle.rule.specs.Tables.{idle_sound}
-use Rattle.rules.specs.HouseSound.{house_sound}
-use Rattle.rules.specs.NotFirstSound.{not_first_sound}
-use Rattle.rules.specs.OverloadSound.{overload_sound}
-use Rattle.rules.specs.TimeTables.{time_table_sound}
+use Rattle.rule.specs.Laws.Mirror.{turned_sound}
+use Rattle.rule.specs.Laws.Tables.{idle_sound}
+use Rattle.rules.specs.Laws.HouseSound.{house_sound}
+use Rattle.rules.specs.Laws.NotFirstSound.{not_first_sound}
+use Rattle.rules.specs.Laws.OverloadSound.{overload_sound}
+use Rattle.rules.specs.Laws.TimeTables.{time_table_sound}
 use Rattle.console.specs.Piles.{pile_meaning}
 use Rattle.console.specs.declared.piles.Pile.{Pile}
 use Rattle.console.specs.declared.piles.Pile.TheVariants as pile

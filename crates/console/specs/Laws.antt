@@ -1,0 +1,2 @@
+-- Lemmas by which the rules show the facts that they owe. No contract needs them to be read.
+pub mod PileSound

@@ -1,0 +1,8 @@
+-- Lemmas by which the rules show the facts that they owe. No contract needs them to be read.
+pub mod ChosenLots
+pub mod Searches
+pub mod FixedParts
+pub mod OverloadSound
+pub mod TimeTables
+pub mod NotFirstSound
+pub mod HouseSound
