@@ -1,54 +1,30 @@
 -- What the words of a line ask.
-use Rattle.std.proofs.Common.{◌≡◌, ℕ, cond, eqb, List, [], ◌∷◌, length, get_or, drop, Ok, Err, Result, sym, refl, ap, ◌∙◌, subst}
+use Rattle.std.proofs.Common.{◌≡◌, ℕ, List, [], ◌∷◌, length, get_or, drop, codes, ap, inl, inr, arith}
 use Rattle.lots.specs.declared.Lot.{Lot}
-use Rattle.plan.specs.Tables.{Table}
-use Rattle.console.specs.Lines.{Name, overflow_call, rule_call, open_call, admit_call, narrow_call, tighten_call, windows_call, word_of, TableForm, Asks, Known, Answers, Made, Unread, Comes}
-use Rattle.console.specs.Piles.{pile_word}
-use Rattle.console.specs.declared.answers.Answer.{Answer}
 use Rattle.console.specs.declared.answers.Fault.{Fault}
 use Rattle.console.specs.declared.answers.Fault.TheVariants as fault
 use Rattle.console.specs.declared.piles.Pile.{Pile}
+use Rattle.console.specs.Lines.{Unread, Table, Known, Faults}
+use Rattle.console.specs.Piles.{pile_word}
 
--- the name that a word is, by its first byte; of the two that begin with an `o`, overflow is the longer
-abbrev name_by : ℕ → ℕ → Name
-name_by b count =
-    cond (eqb b 114) rule_call (cond (eqb b 97) admit_call (cond (eqb b 110) narrow_call (cond (eqb b 116) tighten_call (cond (eqb b 119) windows_call (cond (eqb count 8) overflow_call open_call)))))
+overflow_unknown : (words : List (List ℕ)) → ((C : ℕ) (T : List Lot) → Table words C T → ⊥) → Known (codes "overflow" ∷ words) → ⊥
+overflow_unknown words none (inl asked) = none asked.0 asked.1 asked.2.1
+overflow_unknown words none (inr asked) = omega (arith, ap length asked.3.0)
 
-name_by_word : (n : Name) → name_by (get_or (word_of n) 0 0) (length (word_of n)) ≡ n
-name_by_word overflow_call = refl
-name_by_word rule_call = refl
-name_by_word open_call = refl
-name_by_word admit_call = refl
-name_by_word narrow_call = refl
-name_by_word tighten_call = refl
-name_by_word windows_call = refl
+pub overflow_unread : (words : List (List ℕ)) (f : Fault) → Unread f ((C : ℕ) (T : List Lot) → Table words C T → ⊥) → Faults (codes "overflow" ∷ words) f
+overflow_unread words fault.Unknown none = overflow_unknown words none
+overflow_unread words (fault.Refused refusal) none = absurd none
+overflow_unread words fault.Memory none = tt
 
-one_name : (n m : Name) → word_of n ≡ word_of m → n ≡ m
-one_name n m same = sym (name_by_word n) ∙ ap (λ w. name_by (get_or w 0 0) (length w)) same ∙ name_by_word m
+pub rule_unknown : (words : List (List ℕ)) → ((p : Pile) (C : ℕ) (T : List Lot) → get_or words 0 [] ≡ pile_word p → Table (drop 1 words) C T → ⊥) → Known (codes "rule" ∷ words) → ⊥
+rule_unknown words none (inl asked) = omega (arith, ap length asked.2.0)
+rule_unknown words none (inr asked) = none asked.0 asked.1 asked.2 asked.3.1 asked.3.2
 
--- words that write no arguments of the call that they name write no call
-unknown_arguments : (n : Name) (words : List (List ℕ)) → (Asks n words → ⊥) → Known (word_of n ∷ words) → ⊥
-unknown_arguments n words none (m, named, asked) = none (subst (λ k. Asks k words) (sym (one_name n m named)) asked)
+pub rule_unread : (words : List (List ℕ)) (f : Fault) → Unread f ((C : ℕ) (T : List Lot) → Table (drop 1 words) C T → ⊥) → Faults (codes "rule" ∷ words) f
+rule_unread words fault.Unknown none = rule_unknown words (λ p C T named. none C T)
+rule_unread words (fault.Refused refusal) none = absurd none
+rule_unread words fault.Memory none = tt
 
--- a fault of reading, as what comes of the words
-pub comes_unread : (Right : Table → Table → List ℕ → Type 0) (N M : Type 0) (P : Table) (f : Fault) → (N → M) → Unread f N → Comes Right M P P (Err f)
-comes_unread Right N M P fault.Unknown so none = (so none, refl)
-comes_unread Right N M P (fault.Refused refusal) so none = absurd none
-comes_unread Right N M P fault.Memory so none = refl
-
-pub no_table : (words : List (List ℕ)) → ((C : ℕ) (T : List Lot) → TableForm words C T → ⊥) → Asks overflow_call words → ⊥
-no_table words none (C, T, is) = none C T is
-
-pub no_pile : (words : List (List ℕ)) → ((p : Pile) → get_or words 0 [] ≡ pile_word p → ⊥) → Asks rule_call words → ⊥
-no_pile words none (p, C, T, is) = none p is.0
-
-pub no_rule_table : (words : List (List ℕ)) → ((C : ℕ) (T : List Lot) → TableForm (drop 1 words) C T → ⊥) → Asks rule_call words → ⊥
-no_rule_table words none (p, C, T, is) = none C T is.1
-
--- what came of the words after a name is what came of the whole line
-pub comes_named : (n : Name) (words : List (List ℕ)) (P Q : Table) (r : Result Answer Fault)
-    → Comes (Answers n words) (Asks n words → ⊥) P Q r → Comes (Made (word_of n ∷ words)) (Known (word_of n ∷ words) → ⊥) P Q r
-comes_named n words P Q (Ok a) is = (n, refl, is)
-comes_named n words P Q (Err (fault.Refused refusal)) is = (n, refl, is)
-comes_named n words P Q (Err fault.Unknown) none = (unknown_arguments n words none.0, none.1)
-comes_named n words P Q (Err fault.Memory) same = same
+pub unknown_name : (name : List ℕ) (words : List (List ℕ)) → (name ≡ codes "overflow" → ⊥) → (name ≡ codes "rule" → ⊥) → Known (name ∷ words) → ⊥
+unknown_name name words not_overflow not_rule (inl asked) = not_overflow asked.2.0
+unknown_name name words not_overflow not_rule (inr asked) = not_rule asked.3.0

@@ -1,5 +1,5 @@
 -- What `split` gives are the pieces of the specification.
-use Rattle.std.proofs.Common.{◌≡◌, ℕ, suc, ◌<◌, Bool, true, false, cond, eqb, List, [], ◌∷◌, ◌++◌, length, take, drop, is_some, Some, None, Option, sym, refl, ap, ◌∙◌, true≢false, arith, Bor, MatchOption}
+use Rattle.std.proofs.Common.{◌≡◌, ℕ, suc, ◌<◌, Bool, true, false, cond, eqb, List, [], ◌∷◌, ◌++◌, take, drop, Some, None, Option, sym, refl, ap, ◌∙◌, arith, Bor, MatchOption}
 use Rattle.std.specs.declared.str.Split.{Split}
 use Rattle.std.specs.Str.Pattern.{FindsChar}
 use Rattle.std.specs.Str.Iter.{split_text, split_has_more, split_pattern, split_steps, LacksByte}
@@ -46,8 +46,3 @@ pieces_of_split s c bs text live callee = rw (live, text, callee) refl
 pub first_piece : (s t : Split ℕ) (x : Bor (List ℕ)) (c : ℕ) (bs : List ℕ) → split_text s ≡ bs → split_has_more s ≡ true → split_pattern s ≡ c → c < 128
     → split_steps FindsChar (λ c d. d ≡ c) s (Some x) t → pieces c bs ≡ x.now ∷ to_come t
 first_piece s t x c bs text live callee ascii step = sym (pieces_of_split s c bs text live callee) ∙ (next_piece s t (Some x) (omega (arith, callee)) step).0
-
--- where `next` gives a piece, some were left
-pub some_left : (s t : Split ℕ) (r : Option (Bor (List ℕ))) → split_pattern s < 128 → split_steps FindsChar (λ c d. d ≡ c) s r t → true ≡ is_some r → to_come s ≡ [] → ⊥
-some_left s t None ascii step some none = true≢false some
-some_left s t (Some x) ascii step some none = omega (arith, ap length (sym (next_piece s t (Some x) ascii step).0 ∙ none))

@@ -1,5 +1,5 @@
 -- A line that writes a call is ASCII, and so it is text.
-use Rattle.std.proofs.Common.{◌≡◌, ℕ, suc, ◌<◌, Bool, true, false, cond, eqb, List, [], ◌∷◌, IsUtf8, IsAscii, sym, refl, subst, arith, rules}
+use Rattle.std.proofs.Common.{◌≡◌, ℕ, suc, ◌<◌, Bool, true, false, cond, eqb, List, [], ◌∷◌, codes, IsUtf8, IsAscii, sym, refl, subst, inl, inr, arith, rules}
 use Rattle.std.specs.List.{AllByRecursion}
 use Rattle.std.specs.Str.{all_ascii_digits}
 use Rattle.std.proofs.lemmas.Str.Ascii.{IsAscii-nil, IsAscii-cons}
@@ -8,7 +8,7 @@ use Rattle.std.proofs.lemmas.Str.Parse.{tells_all_ascii_digits}
 use Rattle.std.proofs.lemmas.Bool.{eqb-true}
 use Rattle.std.proofs.lemmas.Str.{IsUtf8-from_ascii}
 use Rattle.lots.specs.declared.Lot.{Lot}
-use Rattle.console.specs.Lines.{Name, overflow_call, rule_call, open_call, admit_call, narrow_call, tighten_call, windows_call, word_of, TableForm, RuleForm, NumbersForm, Asks, Known}
+use Rattle.console.specs.Lines.{Table, OverflowCall, RuleCall, Known}
 use Rattle.console.specs.Piles.{pile_word}
 use Rattle.console.specs.declared.piles.Pile.{Pile}
 use Rattle.console.specs.declared.piles.Pile.TheVariants as pile
@@ -18,8 +18,8 @@ digits_ascii : (ds : List ℕ) → all_ascii_digits ds ≡ true → IsAscii ds
 digits_ascii [] h = IsAscii-nil
 digits_ascii (d ∷ ds) h = let first = tells_all_ascii_digits.parts d ds h in IsAscii-cons d ds (omega (arith, first.0)) (digits_ascii ds first.1)
 
-number_ascii : (bits : ℕ) (w : List ℕ) (n : ℕ) → Number bits w n → IsAscii w
-number_ascii bits w n is = digits_ascii w is.digits_only
+number_ascii : (w : List ℕ) (n : ℕ) → Number w n → IsAscii w
+number_ascii w n is = digits_ascii w is.digits_only
 
 -- one step of `ascii-from-pieces`, by whether b is the byte c
 first_ascii : (b c : ℕ) (bs : List ℕ) (ps : List (List ℕ)) (cut : Bool) → c < 128 → eqb b c ≡ cut → AllByRecursion IsAscii (cond cut ([] ∷ ps) (onto_first b ps)) → (AllByRecursion IsAscii ps → IsAscii bs) → IsAscii (b ∷ bs)
@@ -38,7 +38,7 @@ ascii_from_each R ascii (w ∷ ws) [] h = absurd h
 ascii_from_each R ascii (w ∷ ws) (y ∷ ys) h = (ascii w y h.0, ascii_from_each R ascii ws ys h.1)
 
 cell_ascii : (w : List ℕ) (x : Lot) → Cell w x → IsAscii w
-cell_ascii w x is = ascii_from_pieces comma w (omega arith) (ascii_from_each (Number 16) (number_ascii 16) (pieces comma w) _ is)
+cell_ascii w x is = ascii_from_pieces comma w (omega arith) (ascii_from_each Number number_ascii (pieces comma w) _ is)
 
 pile_ascii : (p : Pile) → IsAscii (pile_word p)
 pile_ascii pile.Idle = IsAscii-from_all (pile_word pile.Idle) (search rules)
@@ -51,38 +51,22 @@ pile_ascii pile.TurnedTimeTable = IsAscii-from_all (pile_word pile.TurnedTimeTab
 pile_ascii pile.TurnedNotFirst = IsAscii-from_all (pile_word pile.TurnedNotFirst) (search rules)
 pile_ascii pile.House = IsAscii-from_all (pile_word pile.House) (search rules)
 
-table_ascii : (words : List (List ℕ)) (C : ℕ) (T : List Lot) → TableForm words C T → AllByRecursion IsAscii words
+table_ascii : (words : List (List ℕ)) (C : ℕ) (T : List Lot) → Table words C T → AllByRecursion IsAscii words
 table_ascii [] C T is = tt
-table_ascii (word ∷ words) C T is = (number_ascii 16 word C is.0, ascii_from_each Cell cell_ascii words T is.1)
+table_ascii (word ∷ words) C T is = (number_ascii word C is.0, ascii_from_each Cell cell_ascii words T is.1)
 
-rule_ascii : (words : List (List ℕ)) (p : Pile) (C : ℕ) (T : List Lot) → RuleForm words p C T → AllByRecursion IsAscii words
+overflow_ascii : (words : List (List ℕ)) (C : ℕ) (T : List Lot) → OverflowCall words C T → AllByRecursion IsAscii words
+overflow_ascii [] C T is = tt
+overflow_ascii (name ∷ words) C T is = (subst IsAscii (sym is.0) (IsAscii-from_all (codes "overflow") (search rules)), table_ascii words C T is.1)
+
+rule_ascii : (words : List (List ℕ)) (p : Pile) (C : ℕ) (T : List Lot) → RuleCall words p C T → AllByRecursion IsAscii words
 rule_ascii [] p C T is = tt
-rule_ascii (word ∷ words) p C T is = (subst IsAscii (sym is.0) (pile_ascii p), table_ascii words C T is.1)
-
-name_ascii : (n : Name) → IsAscii (word_of n)
-name_ascii overflow_call = IsAscii-from_all (word_of overflow_call) (search rules)
-name_ascii rule_call = IsAscii-from_all (word_of rule_call) (search rules)
-name_ascii open_call = IsAscii-from_all (word_of open_call) (search rules)
-name_ascii admit_call = IsAscii-from_all (word_of admit_call) (search rules)
-name_ascii narrow_call = IsAscii-from_all (word_of narrow_call) (search rules)
-name_ascii tighten_call = IsAscii-from_all (word_of tighten_call) (search rules)
-name_ascii windows_call = IsAscii-from_all (word_of windows_call) (search rules)
-
-numbers_ascii : (words : List (List ℕ)) (ns : List ℕ) → NumbersForm words ns → AllByRecursion IsAscii words
-numbers_ascii words ns is = ascii_from_each (Number 16) (number_ascii 16) words ns is
-
-asked_ascii : (n : Name) (words : List (List ℕ)) → Asks n words → AllByRecursion IsAscii words
-asked_ascii overflow_call words (C, T, is) = table_ascii words C T is
-asked_ascii rule_call words (p, C, T, is) = rule_ascii words p C T is
-asked_ascii open_call words (C, is) = numbers_ascii words _ is
-asked_ascii admit_call words (x, is) = numbers_ascii words _ is
-asked_ascii narrow_call words (i, a, b, is) = numbers_ascii words _ is
-asked_ascii tighten_call words (p, is) = subst (AllByRecursion IsAscii) (sym is) (pile_ascii p, tt)
-asked_ascii windows_call words is = subst (AllByRecursion IsAscii) (sym is) tt
+rule_ascii (name ∷ []) p C T is = (subst IsAscii (sym is.0) (IsAscii-from_all (codes "rule") (search rules)), tt)
+rule_ascii (name ∷ word ∷ words) p C T is = (subst IsAscii (sym is.0) (IsAscii-from_all (codes "rule") (search rules)), (subst IsAscii (sym is.1) (pile_ascii p), table_ascii words C T is.2))
 
 known_ascii : (words : List (List ℕ)) → Known words → AllByRecursion IsAscii words
-known_ascii [] known = tt
-known_ascii (word ∷ words) (n, named, asked) = (subst IsAscii (sym named) (name_ascii n), asked_ascii n words asked)
+known_ascii words (inl asked) = overflow_ascii words asked.0 asked.1 asked.2
+known_ascii words (inr asked) = rule_ascii words asked.0 asked.1 asked.2 asked.3
 
 pub text_from_known : (line : List ℕ) → Known (pieces space line) → IsUtf8 line
 text_from_known line known = IsUtf8-from_ascii line (ascii_from_pieces space line (omega arith) (known_ascii (pieces space line) known))

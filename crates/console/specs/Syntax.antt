@@ -48,13 +48,13 @@ abbrev pub number_after : ℕ → List ℕ → ℕ
 number_after n [] = n
 number_after n (d ∷ ds) = number_after (10 * n + (d - digit_zero)) ds
 
--- the word writes the number n: it has decimal digits alone, at least one, and n fits so many bits
-pub record Number (bits : ℕ) (w : List ℕ) (n : ℕ) : Type 0 where
+-- the word writes the number n: it has decimal digits alone, at least one, and n fits 16 bits
+pub record Number (w : List ℕ) (n : ℕ) : Type 0 where
   pub some_digit : 0 < length w
   pub digits_only : all_ascii_digits w ≡ true
-  pub fits : n < 2 ^ bits
+  pub fits : n < 2 ^ 16
   pub value : n ≡ number_after 0 w
 
 -- the word writes a lot: `est,lct,p,c`
 abbrev pub Cell : List ℕ → Lot → Type 0
-Cell w x = Each (Number 16) (pieces comma w) (x.est ∷ x.lct ∷ x.p ∷ x.c ∷ [])
+Cell w x = Each Number (pieces comma w) (x.est ∷ x.lct ∷ x.p ∷ x.c ∷ [])

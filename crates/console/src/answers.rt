@@ -6,7 +6,7 @@ ghost use Rattle.console.specs.declared.answers.Fault.TheVariants.{Refused as re
 
 use lots::{Lot, Refusal};
 use rule::Verdict;
-use std::alloc::{AllocError, AllocFailed};
+use std::alloc::AllocFailed;
 use std::fmt;
 
 // The answer to a line. It is shown as the line that the program writes.
@@ -14,10 +14,6 @@ use std::fmt;
 pub enum Answer {
     Overflow { left: u32, points: usize },
     Applied { verdict: Verdict, lots: Vec<Lot> },
-    Done,
-    Admitted { number: usize },
-    Tightened { verdict: Verdict, applications: u32 },
-    Windows { capacity: u16, lots: Vec<Lot> },
     Refused(Refusal),
     Unknown,
 }
@@ -54,19 +50,6 @@ impl fmt::Display for Answer {
                 f.write_str(word)?;
                 write_cells(lots.as_slice(), f)
             }
-            Answer::Done => f.write_str("ok"),
-            Answer::Admitted { number } => write!(f, "{number}"),
-            Answer::Tightened {
-                verdict,
-                applications,
-            } => {
-                let word = verdict_word(*verdict);
-                write!(f, "{word} {applications}")
-            }
-            Answer::Windows { capacity, lots } => {
-                write!(f, "{capacity}")?;
-                write_cells(lots.as_slice(), f)
-            }
             Answer::Refused(refusal) => {
                 let number = refusal.number();
                 write!(f, "refused {number}")
@@ -96,14 +79,6 @@ impl<T: Drop> From<AllocFailed<T>> for Fault {
     ghost from_gives = { λ _ r. r ≡ out_of_memory };
 
     fn from(_refused: AllocFailed<T>) -> Fault {
-        Fault::Memory
-    }
-}
-
-impl From<AllocError> for Fault {
-    ghost from_gives = { λ _ r. r ≡ out_of_memory };
-
-    fn from(_error: AllocError) -> Fault {
         Fault::Memory
     }
 }

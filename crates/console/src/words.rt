@@ -1,7 +1,7 @@
 // Reads the words of a line: numbers and cells.
-ghost use Rattle.std.specs.Prelude.{◌≡◌, ℕ, List, [], ◌∷◌, length, drop, MatchResult, slice_index_or};
+ghost use Rattle.std.specs.Prelude.{◌≡◌, ℕ, List, [], length, drop, MatchResult, slice_index_or};
 ghost use Rattle.std.specs.Str.Iter.{split_pattern};
-ghost use Rattle.console.specs.Lines.{Unread, TableForm};
+ghost use Rattle.console.specs.Lines.{Unread, Table};
 ghost use Rattle.console.specs.Piles.{pile_word};
 ghost use Rattle.console.specs.Syntax.{Reads, Each, Number, Cell, CutAtByte, to_come};
 
@@ -16,7 +16,7 @@ pub type Parts<'a> = Split<'a, char>;
 
 // The number that the word writes in decimal digits alone, where it fits.
 fn number(word: &str) -> Option<u16>
-    ensures { Reads (Number 16 word.now) result }
+    ensures { Reads (Number word.now) result }
 {
     // `parse` would take a plus sign.
     if word.starts_with('+') {
@@ -28,7 +28,7 @@ fn number(word: &str) -> Option<u16>
 // The number that the next part writes. Where no part is left, there is none, as in an empty part.
 fn next_number(parts: &mut Parts<'_>) -> Option<u16>
     requires { CutAtByte parts.old }
-    ensures answer { Reads (Number 16 (slice_index_or (to_come parts.old) 0 [])) result }
+    ensures answer { Reads (Number (slice_index_or (to_come parts.old) 0 [])) result }
     ensures others { to_come parts.new ≡ drop 1 (to_come parts.old) }
     ensures same { split_pattern parts.new ≡ split_pattern parts.old }
 {
@@ -45,22 +45,10 @@ pub fn next_pile(parts: &mut Parts<'_>) -> Option<Pile>
     pile_named(parts.next()?)
 }
 
-// The pile that the parts name, where there is just one.
-pub fn only_pile(mut parts: Parts<'_>) -> Option<Pile>
-    requires { CutAtByte parts }
-    ensures { Reads (λ p. to_come parts.entry ≡ pile_word p ∷ []) result }
-{
-    let pile = next_pile(&mut parts)?;
-    match parts.next() {
-        None => Some(pile),
-        Some(_) => None,
-    }
-}
-
 // The numbers that the parts write, where there are just `N` of them.
-pub fn numbers<const N: usize>(mut parts: Parts<'_>) -> Option<[u16; N]>
+fn numbers<const N: usize>(mut parts: Parts<'_>) -> Option<[u16; N]>
     requires { CutAtByte parts }
-    ensures { Reads (λ ns. (length ns ≡ N) × Each (Number 16) (to_come parts.entry) ns) result }
+    ensures { Reads (λ ns. (length ns ≡ N) × Each Number (to_come parts.entry) ns) result }
 {
     let mut numbers = [0; N];
     for slot in numbers.iter_mut() {
@@ -98,7 +86,7 @@ fn cells(heap: Global, words: Parts<'_>) -> Result<Vec<Lot>, Fault>
 // The capacity and the lots of the table that the words left write, as `C CELL..`.
 pub fn table(heap: Global, mut words: Parts<'_>) -> Result<(u16, Vec<Lot>), Fault>
     requires { CutAtByte words }
-    ensures { MatchResult result (λ t. TableForm (to_come words.entry) t.0 t.1.items) (λ f. Unread f ((C : ℕ) (T : List Lot) → TableForm (to_come words.entry) C T → ⊥)) }
+    ensures { MatchResult result (λ t. Table (to_come words.entry) t.0 t.1.items) (λ f. Unread f ((C : ℕ) (T : List Lot) → Table (to_come words.entry) C T → ⊥)) }
 {
     let Some(capacity) = next_number(&mut words) else {
         return Err(Fault::Unknown);

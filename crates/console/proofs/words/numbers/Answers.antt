@@ -7,7 +7,7 @@ use Rattle.console.proofs.Pieces.{next_piece}
 use Rattle.console.proofs.words.numbers.Goals as goal
 
 pub loop-slot-init : goal.loop-slot-init
-loop-slot-init g c = (c.requires, length-replicate g.row.N 0, none_read (Number 16) (to_come c.args.parts))
+loop-slot-init g c = (c.requires, length-replicate g.row.N 0, none_read Number (to_come c.args.parts))
 
 pub loop-slot-preserved : goal.loop-slot-preserved
 loop-slot-preserved g c =
@@ -28,7 +28,7 @@ returns-in-None g c =
     let inv = c.loop-slot.invariant in
     let end = next_piece c.loop-slot.parts c.next.new.self None inv.0 c.in-None.ensures.steps in
     let full : length c.loop-slot.slot-items ≤ c.loop-slot.slot-index = omega arith in
-    (inv.1, all_read (Number 16) _ _ (rw (end.0, take_all c.loop-slot.slot-index c.loop-slot.slot-items full) at inv.2))
+    (inv.1, all_read Number _ _ (rw (end.0, take_all c.loop-slot.slot-index c.loop-slot.slot-items full) at inv.2))
 
 pub returns-in-Some : goal.returns-in-Some
 returns-in-Some g c =
@@ -36,4 +36,4 @@ returns-in-Some g c =
     let more = next_piece c.loop-slot.parts c.next.new.self (Some c.in-Some.field-0) inv.0 c.in-Some.ensures.steps in
     let read = take c.loop-slot.slot-index c.loop-slot.slot-items in
     let count : length read ≡ c.loop-slot.slot-index = length-take-le c.loop-slot.slot-index c.loop-slot.slot-items (omega arith) in
-    λ ns is. omega (arith, count_read (Number 16) _ _ read ns inv.2 is.1, ap length more.0)
+    λ ns is. omega (arith, count_read Number _ _ read ns inv.2 is.1, ap length more.0)

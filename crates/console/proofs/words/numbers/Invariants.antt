@@ -7,4 +7,4 @@ use Rattle.console.proofs.words.numbers.Given as goal
 abbrev pub invariant-loop-slot : goal.invariant-loop-slot
 invariant-loop-slot g l =
     (split_pattern l.parts < 128) × (length l.slot-items ≡ g.row.N)
-    × ReadSoFar (Number 16) (to_come l.initial.parts) (to_come l.parts) (take l.slot-index l.slot-items)
+    × ReadSoFar Number (to_come l.initial.parts) (to_come l.parts) (take l.slot-index l.slot-items)

@@ -7,9 +7,3 @@ returns-in_ok-write_str-in-Applied-clause-writes g c = λ plain ok.
     let word = rw c.verdict_word-word.ensures at (c.in_ok-write_str-in-Applied.ensures.writes plain refl) in
     let cells = rw c.as_slice.ensures.value at (c.write_cells.ensures word.plain ok) in
     rw c.in-Applied.is (has_written_append _ _ _ _ _ _ word cells)
-
-pub returns-in_ok-write-in-Windows-clause-writes : goal.returns-in_ok-write-in-Windows-clause-writes
-returns-in_ok-write-in-Windows-clause-writes g c = λ plain ok.
-    let capacity = c.in_ok-write-in-Windows.ensures.writes plain refl in
-    let cells = rw c.as_slice-in-Windows.ensures.value at (c.write_cells-in-Windows.ensures capacity.plain ok) in
-    rw c.in-Windows.is (has_written_append _ _ _ _ _ _ capacity cells)
