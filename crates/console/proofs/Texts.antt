@@ -21,7 +21,7 @@ digits_ascii (d ∷ ds) h = let first = tells_all_ascii_digits.parts d ds h in I
 number_ascii : (w : List ℕ) (n : ℕ) → Number w n → IsAscii w
 number_ascii w n is = digits_ascii w is.digits_only
 
--- one step of `ascii-from-pieces`, by whether b is the byte c
+-- one step of `ascii_from_pieces`, by whether b is the byte c
 first_ascii : (b c : ℕ) (bs : List ℕ) (ps : List (List ℕ)) (cut : Bool) → c < 128 → eqb b c ≡ cut → AllByRecursion IsAscii (cond cut ([] ∷ ps) (onto_first b ps)) → (AllByRecursion IsAscii ps → IsAscii bs) → IsAscii (b ∷ bs)
 first_ascii b c bs ps true ascii is all rest = IsAscii-cons b bs (omega (arith, eqb-true b c is)) (rest all.1)
 first_ascii b c bs [] false ascii is all rest = IsAscii-cons b bs (all.0 0) (rest tt)
