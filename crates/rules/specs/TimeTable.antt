@@ -1,5 +1,5 @@
 -- The rule time-table: a lot starts after the minutes at which it does not fit beside the fixed parts of the others.
-use Rattle.std.specs.Prelude.{ℕ, zero, suc, ◌+◌, ◌-◌, Bool, false, cond, ◌&&◌, ◌||◌, ltb, List, [], ◌∷◌, nat_le, nat_lt, slice_index}
+use Rattle.std.specs.Prelude.{ℕ, zero, suc, ◌+◌, ◌-◌, Bool, false, cond, ◌&&◌, ◌||◌, List, [], ◌∷◌, nat_le, nat_lt, slice_index}
 use Rattle.lots.specs.Limits.{horizon}
 use Rattle.lots.specs.Schedules.{spans}
 use Rattle.lots.specs.Tables.{ect, lst, lot_at}
@@ -46,4 +46,4 @@ bound_of C T j = after_last (blocked C T j) (ect (lot_at T j))
 
 -- dead where the fixed parts pass the capacity; else all lots start at their bounds or later
 abbrev pub time_table : Meaning
-time_table C T = cond (some_below (λ t. ltb C (fixed_load T t)) horizon) dead (raise (bound_of C T) T)
+time_table C T = cond (some_below (λ t. nat_lt C (fixed_load T t)) horizon) dead (raise (bound_of C T) T)

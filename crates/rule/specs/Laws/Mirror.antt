@@ -6,8 +6,7 @@ use Rattle.std.proofs.lemmas.Bool.Decides.{nat_tests}
 use Rattle.std.specs.List.{AllByRecursion}
 use Rattle.lots.specs.Tables.{Lawful}
 use Rattle.lots.specs.Schedules.{spans, load, Placed, Schedule}
-use Rattle.rule.specs.Meanings.{SameWork, Narrower}
-use Rattle.rule.specs.Meanings.{Meaning, Outcome, dead, to, Gives, Dies, SameLaw, Keeps, Hopeless, Sound, Applied}
+use Rattle.rule.specs.Meanings.{SameWork, Narrower, Meaning, Outcome, dead, to, Gives, Dies, SameLaw, Keeps, Hopeless, Sound, Applied}
 use Rattle.lots.specs.declared.Lot.{Lot}
 use Rattle.rule.specs.declared.Verdict.{Verdict}
 use Rattle.rule.specs.declared.Verdict.TheVariants.{Still, Moved, Dead}

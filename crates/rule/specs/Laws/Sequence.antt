@@ -1,8 +1,7 @@
 -- One sound rule after another is sound.
 use Rattle.std.specs.Prelude.{ℕ, List, Ok, ◌≢◌}
 use Rattle.std.proofs.Common.{sym, ap, subst, ◌∙◌}
-use Rattle.rule.specs.Meanings.{Narrower}
-use Rattle.rule.specs.Meanings.{Meaning, Outcome, dead, to, Gives, Dies, SameLaw, Keeps, Hopeless, Sound, Applied}
+use Rattle.rule.specs.Meanings.{Narrower, Meaning, Outcome, dead, to, Gives, Dies, SameLaw, Keeps, Hopeless, Sound, Applied}
 use Rattle.lots.specs.declared.Lot.{Lot}
 use Rattle.rule.specs.Laws.Tables.{same_work_trans, narrower_trans, narrower_antisym}
 use Rattle.rule.specs.Laws.Outcomes.{gives_weaker, dies_weaker, gives_at, applied_to}
