@@ -1,10 +1,9 @@
 // Measures what an application of a rule costs.
 #![tactic(auto)]
 
-ghost use Rattle.std.specs.Prelude.{◌≤◌};
-ghost use Rattle.lots.specs.Limits.{max_lots};
-
 use anyhow::anyhow;
+use arrayvec::ArrayVec;
+use lots::{Lot, MAX_LOTS};
 use rule::Rule;
 use rules::{House, NotFirst, Overload, TimeTable};
 use std::env;
@@ -17,43 +16,36 @@ const CAPACITY: u16 = 24;
 
 const APPLICATIONS: u32 = 200;
 
-// The nanoseconds of one application to the first lots of a table, as the mean of many.
-fn nanos<R: Rule>(
-    rt: &HostRuntime,
-    rule: &R,
-    windows: Windows,
-    count: usize,
-) -> anyhow::Result<u128>
-    requires { count ≤ max_lots }
-{
-    let lots = table(windows);
+// The nanoseconds of one application to these lots, as the mean of many.
+fn nanos<R: Rule>(rt: &HostRuntime, rule: &R, lots: &[Lot]) -> anyhow::Result<u128> {
     let start = Instant::now(rt)?;
     for _ in 0..APPLICATIONS {
-        let mut work = lots;
-        if rule.apply(CAPACITY, &mut work[0..count]).is_err() {
-            return Err(anyhow!("the table is refused"));
-        }
+        // Not on the heap, where time-table took up to twice as long.
+        let mut work = ArrayVec::<Lot, MAX_LOTS>::try_from(lots)?;
+        rule.apply(CAPACITY, &mut work)
+            .map_err(|_| anyhow!("the table is refused"))?;
     }
     Ok(start.elapsed(rt)?.as_nanos() / u128::from(APPLICATIONS))
 }
 
 // One line for each number of lots: short windows, and windows over the week.
 fn measure<R: Rule>(rt: &HostRuntime, rule: &R) -> anyhow::Result<()> {
+    let short_table = table(Windows::Short);
+    let week_table = table(Windows::Week);
     for count in [8, 16, 32, 64] {
-        let short = nanos(rt, rule, Windows::Short, count)?;
-        let week = nanos(rt, rule, Windows::Week, count)?;
+        let short = nanos(rt, rule, &short_table[..count])?;
+        let week = nanos(rt, rule, &week_table[..count])?;
         println!(rt; "{count} lots: {short} ns short, {week} ns week")?;
     }
     Ok(())
 }
 
 fn run(rt: &HostRuntime) -> anyhow::Result<()> {
-    let mut args = env::args(rt)?;
-    args.next();
-    let Some(name) = args.next() else {
+    let Some(name) = env::args(rt)?.nth(1) else {
         rt.println("overload\ntimetable\nnotfirst\nhouse")?;
         return Ok(());
     };
+    // Each arm has a rule of another type, so a table of names and rules would need boxes.
     match name.as_str() {
         "overload" => measure(rt, &Overload),
         "timetable" => measure(rt, &TimeTable),

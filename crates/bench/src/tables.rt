@@ -2,6 +2,7 @@
 ghost use Rattle.std.specs.Prelude.{◌<◌, ◌≤◌};
 
 use lots::{Lot, MAX_LOTS};
+use std::array;
 
 // How long the windows are. The tables are the same but for this.
 #[derive(Clone, Copy)]
@@ -12,19 +13,22 @@ pub enum Windows {
     Week,
 }
 
-fn minutes(windows: Windows) -> u16
-    ensures { result ≤ 66 }
-{
-    match windows {
-        Windows::Short => 1,
-        Windows::Week => 66,
+impl Windows {
+    // The minutes that stand for one.
+    fn scale(self) -> u16
+        ensures { result ≤ 66 }
+    {
+        match self {
+            Windows::Short => 1,
+            Windows::Week => 66,
+        }
     }
 }
 
-fn lot(number: usize, scale: u16) -> Lot
-    requires number_bound { number < 64 }
-    requires scale_bound { scale ≤ 66 }
+fn lot(number: usize, windows: Windows) -> Lot
+    requires { number < 64 }
 {
+    let scale = windows.scale();
     let k = number as u16;
     let est = k * 37 % 100;
     let p = 5 + k * 11 % 20;
@@ -39,10 +43,5 @@ fn lot(number: usize, scale: u16) -> Lot
 
 // 64 lots of many shapes.
 pub fn table(windows: Windows) -> [Lot; MAX_LOTS] {
-    let scale = minutes(windows);
-    let mut lots = [lot(0, scale); MAX_LOTS];
-    for (number, slot) in lots.iter_mut().enumerate() {
-        *slot = lot(number, scale);
-    }
-    lots
+    array::from_fn(|number| lot(number, windows))
 }

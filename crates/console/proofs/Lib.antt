@@ -1,8 +1,3 @@
-mod Asked
-mod Cells
-mod Numbers
 mod Numerals
-mod Pairs
 mod Pieces
-mod Showing
 mod Texts

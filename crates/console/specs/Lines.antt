@@ -1,5 +1,6 @@
 -- What lines ask, and what is answered to them.
 use Rattle.std.specs.Prelude.{◌≡◌, ℕ, ◌⊎◌, List, [], length, drop, Some, None, Ok, Err, vec_items, codes, Option, slice_index, slice_index_or}
+use Rattle.std.specs.List.{AllZip}
 use Rattle.lots.specs.declared.Lot.{Lot}
 use Rattle.elastic.specs.Overflow as elastic
 use Rattle.rule.specs.Meanings.{Applied}
@@ -9,7 +10,7 @@ use Rattle.console.specs.declared.answers.Answer.{Answer}
 use Rattle.console.specs.declared.answers.Answer.TheVariants as answer
 use Rattle.console.specs.declared.answers.Fault.{Fault}
 use Rattle.console.specs.declared.answers.Fault.TheVariants as fault
-use Rattle.console.specs.Syntax.{Each, Number, Cell, pieces, space}
+use Rattle.console.specs.Syntax.{Number, Cell, pieces, space}
 
 -- why nothing was read: P holds where it is for the words, and nothing is said where it is for want of memory
 abbrev pub Unread : Fault → Type 0 → Type 0
@@ -19,7 +20,7 @@ Unread fault.Memory P = Unit {0}
 
 -- the words write the table of the capacity C and the lots T: `C CELL..`
 abbrev pub Table : List (List ℕ) → ℕ → List Lot → Type 0
-Table words C T = Number (slice_index_or words 0 []) C × Each Cell (drop 1 words) T
+Table words C T = Number (slice_index_or words 0 []) C × AllZip Cell (drop 1 words) T
 
 -- the words ask for the overflow of a table: `overflow C CELL..`
 abbrev pub OverflowCall : List (List ℕ) → ℕ → List Lot → Type 0

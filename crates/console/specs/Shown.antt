@@ -1,24 +1,18 @@
 -- The line that is written for an answer.
-use Rattle.std.specs.Prelude.{ℕ, List, [], ◌∷◌, ◌++◌, vec_items, codes, decimal}
+use Rattle.std.specs.Prelude.{ℕ, List, ◌++◌, vec_items, codes, decimal}
+use Rattle.std.specs.List.{flat_map}
 use Rattle.lots.specs.Refusals.{refusal_number}
 use Rattle.lots.specs.declared.Lot.{Lot}
-use Rattle.rule.specs.declared.Verdict.{Verdict}
-use Rattle.rule.specs.declared.Verdict.TheVariants.{Still, Moved, Dead}
+use Rattle.rule.specs.Verdicts.{shown_verdict}
 use Rattle.console.specs.declared.answers.Answer.{Answer}
 use Rattle.console.specs.declared.answers.Answer.TheVariants.{Overflow, Applied, Refused, Unknown}
-
-abbrev pub shown_verdict : Verdict → List ℕ
-shown_verdict Still = codes "still"
-shown_verdict Moved = codes "moved"
-shown_verdict Dead = codes "dead"
 
 abbrev pub shown_cell : Lot → List ℕ
 shown_cell x = decimal x.est ++ (codes "," ++ (decimal x.lct ++ (codes "," ++ (decimal x.p ++ (codes "," ++ decimal x.c)))))
 
 -- the cells, each after a space
 abbrev pub shown_cells : List Lot → List ℕ
-shown_cells [] = []
-shown_cells (x ∷ xs) = (codes " " ++ shown_cell x) ++ shown_cells xs
+shown_cells T = flat_map (λ x. codes " " ++ shown_cell x) T
 
 abbrev pub shown_answer : Answer → List ℕ
 shown_answer (Overflow left points) = decimal left ++ (codes " " ++ decimal points)

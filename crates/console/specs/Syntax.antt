@@ -1,9 +1,12 @@
 -- How a line writes words, numbers and cells.
-use Rattle.std.specs.Prelude.{◌≡◌, ℕ, ◌+◌, ◌-◌, ◌*◌, ◌^◌, ◌<◌, true, cond, List, [], ◌∷◌, length, Option, MatchOption, ◌==◌}
+use Rattle.std.specs.Prelude.{◌≡◌, ℕ, ◌+◌, ◌-◌, ◌*◌, ◌^◌, ◌<◌, true, cond, List, [], ◌∷◌, length, Option, Result, MatchOption, MatchResult, ◌==◌}
+use Rattle.std.specs.List.{AllZip, slice_split}
 use Rattle.std.specs.declared.str.Split.{Split}
 use Rattle.std.specs.Str.Iter.{split_text, split_has_more, split_pattern}
 use Rattle.std.specs.Str.{all_ascii_digits}
 use Rattle.lots.specs.declared.Lot.{Lot}
+use Rattle.console.specs.declared.answers.Fault.{Fault}
+use Rattle.console.specs.declared.answers.Fault.TheVariants.{Unknown}
 
 -- the bytes of a space, a comma and the digit 0
 abbrev pub space : ℕ
@@ -19,25 +22,13 @@ digit_zero = 48
 abbrev pub Reads : {X : Type 0} → (X → Type 0) → Option X → Type 0
 Reads {X} R r = MatchOption r ((x : X) → R x → ⊥) R
 
--- R holds of the two lists, place by place
-abbrev pub Each : {X Y : Type 0} → (X → Y → Type 0) → List X → List Y → Type 0
-Each R [] [] = Unit {0}
-Each R [] (y ∷ ys) = ⊥
-Each R (x ∷ xs) [] = ⊥
-Each R (x ∷ xs) (y ∷ ys) = R x y × Each R xs ys
-
-abbrev pub onto_first : ℕ → List (List ℕ) → List (List ℕ)
-onto_first b [] = (b ∷ []) ∷ []
-onto_first b (w ∷ ws) = (b ∷ w) ∷ ws
+-- the result holds what R holds of, and says that it is unknown where R holds of nothing
+abbrev pub ReadsOrUnknown : {X : Type 0} → (X → Type 0) → Result X Fault → Type 0
+ReadsOrUnknown {X} R r = MatchResult r R (λ f. (f ≡ Unknown) × ((x : X) → R x → ⊥))
 
 -- what stands between the bytes c: one piece more than there are of c, and a piece may be empty
 abbrev pub pieces : ℕ → List ℕ → List (List ℕ)
-pieces c [] = [] ∷ []
-pieces c (b ∷ bs) = cond (b == c) ([] ∷ pieces c bs) (onto_first b (pieces c bs))
-
--- the text is cut at an ASCII character, which is one byte
-abbrev pub CutAtByte : Split ℕ → Type 0
-CutAtByte s = split_pattern s < 128
+pieces c bs = slice_split (λ b. b == c) bs
 
 -- the pieces that a cut text has still to give
 abbrev pub to_come : Split ℕ → List (List ℕ)
@@ -57,4 +48,4 @@ pub record Number (w : List ℕ) (n : ℕ) : Type 0 where
 
 -- the word writes a lot: `est,lct,p,c`
 abbrev pub Cell : List ℕ → Lot → Type 0
-Cell w x = Each Number (pieces comma w) (x.est ∷ x.lct ∷ x.p ∷ x.c ∷ [])
+Cell w x = AllZip Number (pieces comma w) (x.est ∷ x.lct ∷ x.p ∷ x.c ∷ [])

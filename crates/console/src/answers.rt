@@ -1,7 +1,7 @@
 // What a line is answered, and why a call comes to no answer of its own.
 ghost use Rattle.std.specs.Prelude.{◌≡◌, Some};
 ghost use Rattle.std.specs.Fmt.{WritesOnOk};
-ghost use Rattle.console.specs.Shown.{shown_answer, shown_cells, shown_verdict};
+ghost use Rattle.console.specs.Shown.{shown_answer, shown_cells};
 ghost use Rattle.console.specs.declared.answers.Fault.TheVariants.{Refused as refused_by, Memory as out_of_memory};
 
 use lots::{Lot, Refusal};
@@ -16,16 +16,6 @@ pub enum Answer {
     Applied { verdict: Verdict, lots: Vec<Lot> },
     Refused(Refusal),
     Unknown,
-}
-
-fn verdict_word(verdict: Verdict) -> &'static str
-    ensures { result.now ≡ shown_verdict verdict }
-{
-    match verdict {
-        Verdict::Still => "still",
-        Verdict::Moved => "moved",
-        Verdict::Dead => "dead",
-    }
 }
 
 // Writes each lot as ` est,lct,p,c`.
@@ -46,14 +36,10 @@ impl fmt::Display for Answer {
         match self {
             Answer::Overflow { left, points } => write!(f, "{left} {points}"),
             Answer::Applied { verdict, lots } => {
-                let word = verdict_word(*verdict);
-                f.write_str(word)?;
+                write!(f, "{verdict}")?;
                 write_cells(lots.as_slice(), f)
             }
-            Answer::Refused(refusal) => {
-                let number = refusal.number();
-                write!(f, "refused {number}")
-            }
+            Answer::Refused(refusal) => write!(f, "refused {}", u8::from(*refusal)),
             Answer::Unknown => f.write_str("unknown"),
         }
     }

@@ -1,10 +1,12 @@
 // Answers a line: reads the call that it writes, makes the call, and says what came of it.
 ghost use Rattle.std.specs.Prelude.{◌∷◌, IfOk, codes, MatchResult};
 ghost use Rattle.console.specs.Lines.{Answers, Faults, Answered};
-ghost use Rattle.console.specs.Syntax.{pieces, space, CutAtByte, to_come};
+ghost use Rattle.console.specs.Syntax.{pieces, space};
 
 use crate::answers::{Answer, Fault};
-use crate::words::{Parts, next_pile, table};
+use crate::parts::Parts;
+use crate::piles::Pile;
+use crate::words::table;
 use rule::Rule;
 use std::alloc::{AllocError, Global};
 use std::str::from_utf8;
@@ -13,7 +15,7 @@ use std::str::from_utf8;
 pub fn answer(heap: Global, line: &[u8]) -> Result<Option<Answer>, AllocError>
     ensures { IfOk result (Answered line.now) }
 {
-    if line.is_empty() || line[0] == b'#' {
+    if matches!(line.first(), None | Some(b'#')) {
         return Ok(None);
     }
     match call(heap, line) {
@@ -28,24 +30,18 @@ pub fn answer(heap: Global, line: &[u8]) -> Result<Option<Answer>, AllocError>
 fn call(heap: Global, line: &[u8]) -> Result<Answer, Fault>
     ensures { MatchResult result (Answers (pieces space line.now)) (Faults (pieces space line.now)) }
 {
-    let Ok(text) = from_utf8(line) else {
-        return Err(Fault::Unknown);
-    };
-    let mut words = text.split(' ');
-    let Some(name) = words.next() else {
-        return Err(Fault::Unknown);
-    };
-    match name {
-        "overflow" => overflow(heap, words),
-        "rule" => rule(heap, words),
+    let text = from_utf8(line).map_err(|_| Fault::Unknown)?;
+    let mut words = Parts::words(text);
+    match words.next() {
+        Some("overflow") => overflow(heap, words),
+        Some("rule") => rule(heap, words),
         _ => Err(Fault::Unknown),
     }
 }
 
 // `overflow C CELL..`
 fn overflow(heap: Global, words: Parts<'_>) -> Result<Answer, Fault>
-    requires { CutAtByte words }
-    ensures { MatchResult result (Answers (codes "overflow" ∷ to_come words.entry)) (Faults (codes "overflow" ∷ to_come words.entry)) }
+    ensures { MatchResult result (Answers (codes "overflow" ∷ words.entry)) (Faults (codes "overflow" ∷ words.entry)) }
 {
     let (capacity, lots) = table(heap, words)?;
     let (left, points) = elastic::overflow(capacity, lots.as_slice())?;
@@ -54,12 +50,9 @@ fn overflow(heap: Global, words: Parts<'_>) -> Result<Answer, Fault>
 
 // `rule PILE C CELL..`
 fn rule(heap: Global, mut words: Parts<'_>) -> Result<Answer, Fault>
-    requires { CutAtByte words }
-    ensures { MatchResult result (Answers (codes "rule" ∷ to_come words.entry)) (Faults (codes "rule" ∷ to_come words.entry)) }
+    ensures { MatchResult result (Answers (codes "rule" ∷ words.entry)) (Faults (codes "rule" ∷ words.entry)) }
 {
-    let Some(pile) = next_pile(&mut words) else {
-        return Err(Fault::Unknown);
-    };
+    let pile: Pile = words.next().ok_or(Fault::Unknown)?.parse()?;
     let (capacity, mut lots) = table(heap, words)?;
     let verdict = pile.apply(capacity, lots.as_mut_slice())?;
     Ok(Answer::Applied { verdict, lots })

@@ -1,41 +1,79 @@
 // The piles that a word can name.
 ghost use Rattle.std.specs.Prelude.{◌≡◌};
-ghost use Rattle.console.specs.Piles.{pile_word, pile_meaning};
-ghost use Rattle.console.specs.Syntax.{Reads};
-ghost use Rattle.console.specs.Laws.PileSound.{pile_sound};
+ghost use Rattle.console.specs.Piles.{base_word, base_meaning, pile_word, pile_meaning};
+ghost use Rattle.console.specs.Syntax.{ReadsOrUnknown};
+ghost use Rattle.console.specs.Laws.PileSound.{base_sound, pile_sound};
 
+use crate::answers::Fault;
 use lots::{Lot, Refusal};
 use rule::{Idle, Rule, Turned, Verdict};
 use rules::{House, NotFirst, Overload, TimeTable};
+use std::str::FromStr;
 
+// A rule that stands alone.
 #[derive(Clone, Copy)]
-pub enum Pile {
+pub enum Base {
     Idle,
     Overload,
     TimeTable,
     NotFirst,
-    TurnedIdle,
-    TurnedOverload,
-    TurnedTimeTable,
-    TurnedNotFirst,
+}
+
+impl FromStr for Base {
+    type Err = Fault;
+
+    ghost from_str_gives = { λ word r. ReadsOrUnknown (λ b. word ≡ base_word b) r };
+
+    fn from_str(word: &str) -> Result<Base, Fault> {
+        match word {
+            "idle" => Ok(Base::Idle),
+            "overload" => Ok(Base::Overload),
+            "timetable" => Ok(Base::TimeTable),
+            "notfirst" => Ok(Base::NotFirst),
+            _ => Err(Fault::Unknown),
+        }
+    }
+}
+
+impl Rule for Base {
+    ghost meaning = { base_meaning };
+
+    ghost sound = { λ x. base_sound x };
+
+    fn apply(&self, capacity: u16, lots: &mut [Lot]) -> Result<Verdict, Refusal> {
+        match *self {
+            Base::Idle => Idle.apply(capacity, lots),
+            Base::Overload => Overload.apply(capacity, lots),
+            Base::TimeTable => TimeTable.apply(capacity, lots),
+            Base::NotFirst => NotFirst.apply(capacity, lots),
+        }
+    }
+}
+
+// A rule that stands alone, as it is or turned, or the house pile.
+#[derive(Clone, Copy)]
+pub enum Pile {
+    Plain(Base),
+    Turned(Base),
     House,
 }
 
-// The pile that the word names.
-pub fn pile_named(word: &str) -> Option<Pile>
-    ensures { Reads (λ p. word.now ≡ pile_word p) result }
-{
-    match word {
-        "idle" => Some(Pile::Idle),
-        "overload" => Some(Pile::Overload),
-        "timetable" => Some(Pile::TimeTable),
-        "notfirst" => Some(Pile::NotFirst),
-        "turned(idle)" => Some(Pile::TurnedIdle),
-        "turned(overload)" => Some(Pile::TurnedOverload),
-        "turned(timetable)" => Some(Pile::TurnedTimeTable),
-        "turned(notfirst)" => Some(Pile::TurnedNotFirst),
-        "house" => Some(Pile::House),
-        _ => None,
+impl FromStr for Pile {
+    type Err = Fault;
+
+    ghost from_str_gives = { λ word r. ReadsOrUnknown (λ p. word ≡ pile_word p) r };
+
+    fn from_str(word: &str) -> Result<Pile, Fault> {
+        if word == "house" {
+            return Ok(Pile::House);
+        }
+        let within = word
+            .strip_prefix("turned(")
+            .and_then(|rest| rest.strip_suffix(')'));
+        match within {
+            Some(base) => base.parse().map(Pile::Turned),
+            None => word.parse().map(Pile::Plain),
+        }
     }
 }
 
@@ -46,14 +84,8 @@ impl Rule for Pile {
 
     fn apply(&self, capacity: u16, lots: &mut [Lot]) -> Result<Verdict, Refusal> {
         match *self {
-            Pile::Idle => Idle.apply(capacity, lots),
-            Pile::Overload => Overload.apply(capacity, lots),
-            Pile::TimeTable => TimeTable.apply(capacity, lots),
-            Pile::NotFirst => NotFirst.apply(capacity, lots),
-            Pile::TurnedIdle => Turned { rule: Idle }.apply(capacity, lots),
-            Pile::TurnedOverload => Turned { rule: Overload }.apply(capacity, lots),
-            Pile::TurnedTimeTable => Turned { rule: TimeTable }.apply(capacity, lots),
-            Pile::TurnedNotFirst => Turned { rule: NotFirst }.apply(capacity, lots),
+            Pile::Plain(base) => base.apply(capacity, lots),
+            Pile::Turned(base) => Turned { rule: base }.apply(capacity, lots),
             Pile::House => House.apply(capacity, lots),
         }
     }

@@ -1,18 +1,15 @@
 // Reads the words of a line: numbers and cells.
-ghost use Rattle.std.specs.Prelude.{◌≡◌, ℕ, List, [], length, drop, MatchResult, slice_index_or};
-ghost use Rattle.std.specs.Str.Iter.{split_pattern};
+ghost use Rattle.std.specs.Prelude.{◌≡◌, ℕ, List, MatchResult};
+ghost use Rattle.std.specs.List.{AllZip};
 ghost use Rattle.console.specs.Lines.{Unread, Table};
-ghost use Rattle.console.specs.Piles.{pile_word};
-ghost use Rattle.console.specs.Syntax.{Reads, Each, Number, Cell, CutAtByte, to_come};
+ghost use Rattle.console.specs.Syntax.{Reads, Number, Cell};
 
 use crate::answers::Fault;
-use crate::piles::{Pile, pile_named};
+use crate::parts::Parts;
 use lots::Lot;
 use std::alloc::Global;
-use std::str::Split;
 
-// The parts of a text that are still to be read: words of a line, or numbers of a cell.
-pub type Parts<'a> = Split<'a, char>;
+// No `FromStr` here: `u16` has another one, `Lot` is of another crate, and a type around each would be taken off at once.
 
 // The number that the word writes in decimal digits alone, where it fits.
 fn number(word: &str) -> Option<u16>
@@ -25,72 +22,39 @@ fn number(word: &str) -> Option<u16>
     word.parse().ok()
 }
 
-// The number that the next part writes. Where no part is left, there is none, as in an empty part.
-fn next_number(parts: &mut Parts<'_>) -> Option<u16>
-    requires { CutAtByte parts.old }
-    ensures answer { Reads (Number (slice_index_or (to_come parts.old) 0 [])) result }
-    ensures others { to_come parts.new ≡ drop 1 (to_come parts.old) }
-    ensures same { split_pattern parts.new ≡ split_pattern parts.old }
-{
-    number(parts.next()?)
-}
-
-// The pile that the next part names.
-pub fn next_pile(parts: &mut Parts<'_>) -> Option<Pile>
-    requires { CutAtByte parts.old }
-    ensures answer { Reads (λ p. slice_index_or (to_come parts.old) 0 [] ≡ pile_word p) result }
-    ensures others { to_come parts.new ≡ drop 1 (to_come parts.old) }
-    ensures same { split_pattern parts.new ≡ split_pattern parts.old }
-{
-    pile_named(parts.next()?)
-}
-
-// The numbers that the parts write, where there are just `N` of them.
-fn numbers<const N: usize>(mut parts: Parts<'_>) -> Option<[u16; N]>
-    requires { CutAtByte parts }
-    ensures { Reads (λ ns. (length ns ≡ N) × Each Number (to_come parts.entry) ns) result }
-{
-    let mut numbers = [0; N];
-    for slot in numbers.iter_mut() {
-        *slot = next_number(&mut parts)?;
-    }
-    match parts.next() {
-        None => Some(numbers),
-        Some(_) => None,
-    }
-}
-
 // The lot of the cell `est,lct,p,c`.
 fn cell(word: &str) -> Option<Lot>
     ensures { Reads (Cell word.now) result }
 {
-    let [est, lct, p, c] = numbers::<4>(word.split(','))?;
-    Some(Lot { est, lct, p, c })
+    let mut numbers = Parts::numbers(word);
+    let est = number(numbers.next()?)?;
+    let lct = number(numbers.next()?)?;
+    let p = number(numbers.next()?)?;
+    let c = number(numbers.next()?)?;
+    match numbers.next() {
+        None => Some(Lot { est, lct, p, c }),
+        Some(_) => None,
+    }
 }
 
 // The lots of the cells that the words left write.
 fn cells(heap: Global, words: Parts<'_>) -> Result<Vec<Lot>, Fault>
-    requires { CutAtByte words }
-    ensures { MatchResult result (λ lots. Each Cell (to_come words.entry) lots.items) (λ f. Unread f ((T : List Lot) → Each Cell (to_come words.entry) T → ⊥)) }
+    ensures { MatchResult result (λ lots. AllZip Cell words.entry lots.items) (λ f. Unread f ((T : List Lot) → AllZip Cell words.entry T → ⊥)) }
 {
     let mut lots = Vec::new(heap);
+    // A loop, since of a chain that collects nothing says that it fails where a cell does.
     for word in words {
-        match cell(word) {
-            Some(lot) => lots.push(lot)?,
-            None => return Err(Fault::Unknown),
-        }
+        let lot = cell(word).ok_or(Fault::Unknown)?;
+        lots.push(lot)?;
     }
     Ok(lots)
 }
 
-// The capacity and the lots of the table that the words left write, as `C CELL..`.
+// The capacity and the lots of the table that the words left write, as `C CELL..`: a pair, which callers take apart at once.
 pub fn table(heap: Global, mut words: Parts<'_>) -> Result<(u16, Vec<Lot>), Fault>
-    requires { CutAtByte words }
-    ensures { MatchResult result (λ t. Table (to_come words.entry) t.0 t.1.items) (λ f. Unread f ((C : ℕ) (T : List Lot) → Table (to_come words.entry) C T → ⊥)) }
+    ensures { MatchResult result (λ t. Table words.entry t.0 t.1.items) (λ f. Unread f ((C : ℕ) (T : List Lot) → Table words.entry C T → ⊥)) }
 {
-    let Some(capacity) = next_number(&mut words) else {
-        return Err(Fault::Unknown);
-    };
+    let capacity = words.next().and_then(number).ok_or(Fault::Unknown)?;
     let lots = cells(heap, words)?;
     Ok((capacity, lots))
 }

@@ -6,7 +6,7 @@ use Rattle.std.proofs.lemmas.List.{map-append, take-append-drop}
 use Rattle.std.proofs.lemmas.Bool.{false≢true, cases_Bool, or_cases, or_left, or_right, eqb-true, eq-eqb}
 use Rattle.std.proofs.lemmas.Bool.Decides.{nat_tests}
 use Rattle.elastic.specs.Profile.{has}
-use Rattle.elastic.specs.Rows.{Stands, Stored, Seated}
+use Rattle.elastic.specs.Rows.{Stands, Put, Seated}
 use Rattle.elastic.specs.declared.row.Place.{Place}
 use Rattle.elastic.specs.declared.row.Place.TheVariants.{Placed, Present, Full}
 use Rattle.elastic.proofs.Counts.{has_between, has_known}
@@ -53,8 +53,8 @@ module _ {E : Type 0} (key : E → ℕ) where
     ]
 
   -- a put that finds a place adds the key, and no other
-  pub keys_put : (e : E) (row cells row' cells' : List E) (r : Place) → (r ≡ Full → ⊥) → Stored e row cells row' cells' r → Seated nat_cmp_total key e row r → (t : ℕ) → has t (map key row') ≡ (eqb t (key e) || has t (map key row))
-  keys_put e row cells row' cells' (Placed i) free stored seated t = ap (λ xs. has t (map key xs)) stored.2 ∙ keys_inserted row e i t
-  keys_put e row cells row' cells' (Present i) free stored seated t =
-      ap (λ xs. has t (map key xs)) stored.1 ∙ has_known t (key e) (map key row) (stands_known row (key e) i e seated)
-  keys_put e row cells row' cells' Full free stored seated t = absurd (free refl)
+  pub keys_put : (most : ℕ) (e : E) (row row' : List E) (r : Place) → (r ≡ Full → ⊥) → Put most e row row' r → Seated nat_cmp_total key e row r → (t : ℕ) → has t (map key row') ≡ (eqb t (key e) || has t (map key row))
+  keys_put most e row row' (Placed i) free put seated t = ap (λ xs. has t (map key xs)) put.2 ∙ keys_inserted row e i t
+  keys_put most e row row' (Present i) free put seated t =
+      ap (λ xs. has t (map key xs)) put.1 ∙ has_known t (key e) (map key row) (stands_known row (key e) i e seated)
+  keys_put most e row row' Full free put seated t = absurd (free refl)

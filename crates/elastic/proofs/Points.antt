@@ -6,10 +6,10 @@ use Rattle.std.proofs.lemmas.Int.{ints}
 use Rattle.std.specs.Cmp.{nat_cmp_total}
 use Rattle.std.proofs.lemmas.List.Edits.{length-insert}
 use Rattle.std.proofs.ByRecursion.{All-weaker, All-append, All-take, All-drop, All-set, All-get_or}
-use Rattle.std.proofs.lemmas.List.{map-set, set-get_or, take-append-drop, get_or-set_same, get_or-set_other, get_or-map, get_or-take, length-set, length-take}
+use Rattle.std.proofs.lemmas.List.{map-set, set-get_or, take-append-drop, get_or-set_same, get_or-set_other, get_or-map, get_or_default, get_or-take, length-set, length-take}
 use Rattle.std.proofs.lemmas.Bool.{cases_eq}
 use Rattle.elastic.specs.Profile.{has}
-use Rattle.elastic.specs.Rows.{Stands, Stored, Seated}
+use Rattle.elastic.specs.Rows.{Stands, Put, Seated}
 use Rattle.elastic.specs.declared.row.Place.TheVariants.{Placed, Present}
 use Rattle.elastic.specs.Points.{upto, point_at, altered, Small, minutes_of, Rising, Entered}
 use Rattle.elastic.proofs.Rows.{nowhere}
@@ -59,6 +59,22 @@ small_altered a b p e s t = record {
   required_high = omega (arith, ints);
 }
 
+-- a point written over by one of its minute
+module _ (ps : List Point) (i : ℕ) (q : Point) (same : q.minute ≡ (point_at ps i).minute) (h : i < length ps) where
+  minute_kept : (j : ℕ) (d : Point) → (get_or (set ps i q) j d).minute ≡ (get_or ps j d).minute
+  minute_kept j d = elim (cases_eq j i) [
+    | inl k ↦
+        ap (λ n. (get_or (set ps i q) n d).minute) k
+        ∙ ap minute (get_or-set_same ps i q d h)
+        ∙ same
+        ∙ ap minute (get_or_default ps i _ d h)
+        ∙ ap (λ n. (get_or ps n d).minute) (sym k)
+    | inr ne ↦ ap minute (get_or-set_other ps i j q d ne)
+  ]
+
+  pub rising_set : Rising ps → Rising (set ps i q)
+  rising_set up a b d l r = ap₂ nat_cmp (minute_kept a d) (minute_kept b d) ∙ up a b d l (subst (λ n. b < n) (length-set ps i q) r)
+
 module _ (ps : List Point) (e : Point) (i : ℕ) where
   module _ (low : i ≤ length ps) (lacks : (j : ℕ) → Stands nat_cmp_total minute e.minute ps j → ⊥) (up : Rising (insert ps i e)) where
     sums : (f : Point → ℤ) (t : ℕ) → upto f (insert ps i e) t ≡ upto f ps t +ℤ part f t e
@@ -83,14 +99,6 @@ module _ (ps : List Point) (e : Point) (i : ℕ) where
     same_minute : (d : Point) → (get_or ps i d).minute ≡ e.minute
     same_minute = key_stands minute ps e.minute i at
 
-    minute_kept : (j : ℕ) (d : Point) → (get_or (set ps i new) j d).minute ≡ (get_or ps j d).minute
-    minute_kept j d = elim (cases_eq j i) [
-      | inl k ↦
-          let there = ap minute (get_or-set_same ps i new d at.0) in
-          ap (λ n. (get_or (set ps i new) n d).minute) k ∙ there ∙ same_minute _ ∙ sym (same_minute d) ∙ ap (λ n. (get_or ps n d).minute) (sym k)
-      | inr ne ↦ ap minute (get_or-set_other ps i j new d ne)
-    ]
-
     minutes_kept : minutes_of (set ps i new) ≡ minutes_of ps
     minutes_kept =
         map-set minute ps i new ∙ ap (set (minutes_of ps) i) (sym (get_or-map minute ps i _ 0 at.0)) ∙ set-get_or (minutes_of ps) i 0
@@ -100,8 +108,7 @@ module _ (ps : List Point) (e : Point) (i : ℕ) where
 
     pub entered_present : Entered ps e (set ps i new)
     entered_present = record {
-      rising = λ a b d l h.
-          ap₂ nat_cmp (minute_kept a d) (minute_kept b d) ∙ up a b d l (subst (λ n. b < n) (length-set ps i new) h);
+      rising = rising_set ps i new refl at.0 up;
       count = length-set ps i new ∙ omega (arith, ap (λ b. cond {A = ℕ} b 0 1) known);
       at = λ t. ap (has t) minutes_kept ∙ has_known t e.minute (minutes_of ps) known;
       available = λ t. upto_set (λ p. p.available) t ps i new e at.0 refl (sym (same_minute _)) refl;
@@ -110,37 +117,30 @@ module _ (ps : List Point) (e : Point) (i : ℕ) where
           All-set (Small (a + b)) ps i new (small_altered a b _ e (All-get_or (Small a) ps i _ at.0 s) h) (All-weaker (Small a) (Small (a + b)) (weaker_small a (a + b) (omega arith)) ps s);
     }
 
--- entering as the code does it: into the first len of the points, of which the row's `put` leaves the first len' of points'
-module _ (points points' : List Point) (len len' : ℕ) (e : Point) (i : ℕ) where
-  abbrev before : List Point
-  before = take len points
+-- entering as the code does it: the row's `put` leaves the points ps'
+module _ (most : ℕ) (ps ps' : List Point) (e : Point) (i : ℕ) where
+  pub entered_by_put : Put most e ps ps' (Placed i) → Seated nat_cmp_total minute e ps (Placed i) → Rising ps' → Entered ps e ps'
+  entered_by_put put seated up =
+      let lacks = nowhere nat_cmp_total minute ps e.minute i seated.0 seated.1 in
+      subst (Entered ps e) (sym put.2) (entered_placed ps e i put.0 lacks (subst Rising put.2 up))
 
-  pub entered_by_put : Stored e before points (take len' points') points' (Placed i) → Seated nat_cmp_total minute e before (Placed i) → Rising (take len' points') → Entered before e (take len' points')
-  entered_by_put stored seated up =
-      let row = stored.2 in
-      let lacks = nowhere nat_cmp_total minute before e.minute i seated.0 seated.1 in
-      subst (Entered before e) (sym row) (entered_placed before e i stored.0 lacks (subst Rising row up))
+  module _ (put : Put most e ps ps' (Present i)) where
+    pub small_there : (b : ℕ) → AllByRecursion (Small b) ps → Small b (point_at ps' i)
+    small_there b s = subst (λ qs. Small b (point_at qs i)) (sym put.1) (All-get_or (Small b) ps i _ put.0 s)
 
-  module _ (stored : Stored e before points (take len' points') points' (Present i)) where
-    inside : i < len
-    inside = omega (arith, stored.0, length-take len points)
+    pub entered_by_alter : Seated nat_cmp_total minute e ps (Present i) → Rising ps → (qs : List Point) → qs ≡ set ps' i (altered (point_at ps' i) e) → Entered ps e qs
+    entered_by_alter seated up qs is =
+        subst (Entered ps e) (sym (is ∙ ap (λ rs. set rs i (altered (point_at rs i) e)) put.1)) (entered_present ps e i seated up)
 
-    -- the point that is altered, seen in the points in use
-    same_point : point_at points' i ≡ point_at before i
-    same_point = ap (λ ps. point_at ps i) stored.2 ∙ sym (get_or-take len points i _ inside)
+-- an alteration among the first len of the points
+module _ (points : List Point) (len i : ℕ) (e : Point) (h : i < length (take len points)) where
+  abbrev there : Point
+  there = point_at (take len points) i
 
-    pub small_there : (b : ℕ) → AllByRecursion (Small b) before → Small b (point_at points' i)
-    small_there b s = subst (Small b) (sym same_point) (All-get_or (Small b) before i _ stored.0 s)
+  pub taken_altered : take len (set points i (altered (point_at points i) e)) ≡ set (take len points) i (altered there e)
+  taken_altered =
+      let within : i < len = omega (arith, h, length-take len points) in
+      take-set-lt len points i _ within ∙ ap (λ p. set (take len points) i (altered p e)) (sym (get_or-take len points i _ within))
 
-    pub entered_by_alter : Seated nat_cmp_total minute e before (Present i) → Rising before → (points'' : List Point) (len'' : ℕ) → len'' ≡ len' → points'' ≡ set points' i (altered (point_at points' i) e) → Entered before e (take len'' points'')
-    entered_by_alter seated up points'' len'' as_long changed =
-        let within : i < len'' = omega (arith, stored.0, ap length stored.1, length-take len' points') in
-        let after = ap (take len'') changed ∙ take-set-lt len'' points' i _ within in
-        let same = ap (λ n. take n points') as_long ∙ stored.1 in
-        let is = after ∙ ap₂ (λ ps p. set ps i (altered p e)) same same_point in
-        subst (Entered before e) (sym is) (entered_present before e i seated up)
-
--- a point that is altered leaves as many in use
-pub count_altered : (points points' : List Point) (len len' i : ℕ) (q : Point) → len ≡ length (take len points) → len' ≡ len → points' ≡ set points i q → len' ≡ length (take len' points')
-count_altered points points' len len' i q e s c =
-    omega (arith, length-take len points, length-take len' points', ap length c ∙ length-set points i q)
+  pub rising_altered : Rising (take len points) → Rising (take len (set points i (altered (point_at points i) e)))
+  rising_altered up = subst Rising (sym taken_altered) (rising_set (take len points) i (altered there e) refl h up)

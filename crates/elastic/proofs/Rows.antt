@@ -1,13 +1,14 @@
 -- Rows in the strict order of their keys.
-use Rattle.std.proofs.Common.{◌≡◌, ℕ, ◌+◌, ◌-◌, ◌<◌, ◌≤◌, min, List, [], ◌∷◌, ◌++◌, length, get_or, take, drop, Ok, Err, Ordering, Less, Greater, sym, refl, ap, ◌∙◌, subst, inl, inr, arith}
+use Rattle.std.proofs.Common.{◌≡◌, ℕ, ◌+◌, ◌-◌, ◌<◌, ◌≤◌, min, List, [], ◌∷◌, ◌++◌, length, get_or, take, drop, Result, Ok, Err, Ordering, Less, Greater, sym, refl, ap, ◌∙◌, subst, inl, inr, arith}
 use Rattle.std.specs.Cmp.{IsTotalOrder}
-use Rattle.std.specs.Ordering.{ordering_reverse}
+use Rattle.std.specs.Ordering.{ordering_reverse, is_lt}
 use Rattle.std.specs.List.{insert}
+use Rattle.std.specs.List.Sorted.{IsSearchInRange, IsBinarySearchResult, IsSortedBy}
+use Rattle.std.proofs.lemmas.List.Sorted.{searchable_from_sorted}
 use Rattle.std.proofs.lemmas.List.Edits.{length-insert, get_or-insert_below, get_or-insert_at, get_or-insert_above}
-use Rattle.std.proofs.lemmas.List.{get_or_default, length-take, take_all, take_at}
+use Rattle.std.proofs.lemmas.List.{length-take, take_all, take_at}
 use Rattle.std.proofs.lemmas.Bool.{cases_lt, cases_order}
 use Rattle.elastic.specs.Rows.{Ascending, Below, Above, Stands, Sought, Seated, Stored}
-use Rattle.elastic.specs.declared.row.Place.{Place}
 use Rattle.elastic.specs.declared.row.Place.TheVariants.{Placed, Present, Full}
 
 -- some element of a list that has one
@@ -25,38 +26,17 @@ module _ {E K : Type 0} {R : K → K → Ordering} (o : IsTotalOrder R) (key : E
   flipped : (x y : K) (r : Ordering) → R x y ≡ r → R y x ≡ ordering_reverse r
   flipped x y r e = o.antisymm y x ∙ ap ordering_reverse e
 
+  sorted : (row : List E) → Ascending o key row → IsSortedBy (λ a b. is_lt (R (key a) (key b))) row
+  sorted row up i d low high = ap is_lt (flipped _ _ Less (up i (i + 1) d (omega arith) high))
+
+  -- what a search by the key finds
+  pub sought : (row : List E) (k : K) (r : Result ℕ ℕ) → IsSearchInRange r (length row) → IsBinarySearchResult (λ x. R (key x) k) row r → Ascending o key row → Sought o key k row r
+  sought row k (Ok i) inside equal up = (inside, equal)
+  sought row k (Err i) inside parted up =
+      let point = parted (searchable_from_sorted o key row k (sorted row up)) in
+      (inside, point.0, point.1)
+
   module _ (row : List E) (k : K) where
-    -- an element compares alike at every default
-    alike_at : (i j : ℕ) (r : Ordering) (d b : E) → i ≡ j → i < length row → R (key (get_or row i d)) k ≡ r → R (key (get_or row j b)) k ≡ r
-    alike_at i j r d b s h e = let p = get_or_default row i d b h in cc
-
-    module _ (i : ℕ) (x : E) (h : i < length row) (is : x ≡ get_or row i x) (kx : K) (named : kx ≡ key x) where
-      read : (r : Ordering) → R kx k ≡ r → R (key (get_or row i x)) k ≡ r
-      read r e = let says = e in cc
-
-      module _ (up : Ascending o key row) (n : ℕ) where
-        -- a lower key has only lower ones before it
-        pub below_upto : R kx k ≡ Less → n ≡ i + 1 → Below o key k row n
-        below_upto e s j b lo hi = elim (cases_lt j i) [
-          | inl l ↦ o.trans (key (get_or row j b)) (key (get_or row i b)) k (up j i b l h) (alike_at i i Less x b refl h (read Less e))
-          | inr g ↦ alike_at i j Less x b (omega arith) h (read Less e)
-        ]
-
-        -- a higher key has only higher ones after it
-        pub above_from : R kx k ≡ Greater → n ≡ i → Above o key k row n
-        above_from e s j b lo hi = elim (cases_lt i j) [
-          | inl l ↦
-              let first : R k (key (get_or row i b)) ≡ Less = flipped (key (get_or row i b)) k Greater (alike_at i i Greater x b refl h (read Greater e)) in
-              flipped k (key (get_or row j b)) Less (o.trans k (key (get_or row i b)) (key (get_or row j b)) first (up i j b l hi))
-          | inr g ↦ alike_at i j Greater x b (omega arith) h (read Greater e)
-        ]
-
-    pub below_same : (m n : ℕ) → n ≡ m → Below o key k row m → Below o key k row n
-    below_same m n e = subst (Below o key k row) (sym e)
-
-    pub above_same : (m n : ℕ) → n ≡ m → Above o key k row m → Above o key k row n
-    above_same m n e = subst (Above o key k row) (sym e)
-
     -- a key with lower ones before a place and higher ones from it on stands nowhere
     pub nowhere : (i : ℕ) → Below o key k row i → Above o key k row i → (j : ℕ) → Stands o key k row j → ⊥
     nowhere i below above j at =
@@ -144,16 +124,6 @@ module _ {E : Type 0} (cells : List E) (n len : ℕ) (size : len ≡ min n (leng
     pub stored_placed : Stored e (take n cells) cells (take (len + 1) cells') cells' (Placed i)
     stored_placed = (low, omega (arith, row_length, size), row_after, cells_after)
 
--- what a row did to cells that were lent to it holds of the cells themselves
-module _ {E : Type 0} (cells lent cells' : List E) (len n n' len' : ℕ) (as_long : n ≡ len) (as_lent : lent ≡ cells) (size : len' ≡ min n' (length cells')) where
-  pub same_before : take n lent ≡ take len cells
-  same_before = cc
-
-  pub same_after : take n' cells' ≡ take len' cells'
-  same_after = sym (take_min cells' n' len' size)
-
-  pub stored_given_back : (e : E) (r : Place) → Stored e (take n lent) lent (take n' cells') cells' r → Stored e (take len cells) cells (take len' cells') cells' r
-  stored_given_back e r stored =
-      subst (λ row'. Stored e (take len cells) cells row' cells' r) same_after
-      (subst (λ row. Stored e row cells (take n' cells') cells' r) same_before
-      (subst (λ before. Stored e (take n lent) before (take n' cells') cells' r) as_lent stored))
+-- a row over lent cells is the first of them
+pub same_before : {E : Type 0} (cells lent : List E) (len n : ℕ) → n ≡ len → lent ≡ cells → take n lent ≡ take len cells
+same_before cells lent len n as_long as_lent = cc

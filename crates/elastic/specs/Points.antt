@@ -1,5 +1,5 @@
 -- Tables of points: the minutes at which a profile changes, and by how much.
-use Rattle.std.specs.Prelude.{◌≡◌, ℕ, ◌+◌, ◌*◌, cond, ◌||◌, List, [], ◌∷◌, map, length, take, ℤ, pos, ◌+ℤ◌, neg_ℤ, ◌≤ℤ◌, ◌==◌, nat_le, slice_index_or}
+use Rattle.std.specs.Prelude.{◌≡◌, ℕ, ◌+◌, ◌*◌, cond, ◌||◌, List, [], ◌∷◌, map, length, ℤ, pos, ◌+ℤ◌, neg_ℤ, ◌≤ℤ◌, ◌==◌, nat_le, slice_index_or}
 use Rattle.std.specs.Cmp.{nat_cmp_total}
 use Rattle.std.specs.List.{AllByRecursion}
 use Rattle.lots.specs.Limits.{max_capacity, max_lots}
@@ -9,15 +9,10 @@ use Rattle.elastic.specs.Rows.{Ascending}
 use Rattle.elastic.specs.Profile as profile
 use Rattle.elastic.specs.Profile.{creq, minutes, points, has}
 use Rattle.elastic.specs.declared.profile.Point.{Point}
-use Rattle.elastic.specs.declared.profile.Profile.{Profile}
 
 -- at most the est, the ect and the lct of each lot
 abbrev pub max_points : ℕ
 max_points = 3 * max_lots
-
--- the points that are in use
-abbrev pub used : Profile → List Point
-used p = take p.len p.points
 
 abbrev pub minutes_of : List Point → List ℕ
 minutes_of ps = map (λ p. p.minute) ps

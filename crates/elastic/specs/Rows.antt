@@ -24,6 +24,12 @@ Stored e row cells row' cells' (Placed i) =
 Stored e row cells row' cells' (Present i) = (i < length row) × (row' ≡ row) × (cells' ≡ cells)
 Stored e row cells row' cells' Full = (length row ≡ length cells) × (row' ≡ row) × (cells' ≡ cells)
 
+-- what a row of at most n elements is after e was put: row'
+abbrev pub Put : {E : Type 0} → ℕ → E → (row row' : List E) → Place → Type 0
+Put n e row row' (Placed i) = (i ≤ length row) × (length row < n) × (row' ≡ insert row i e)
+Put n e row row' (Present i) = (i < length row) × (row' ≡ row)
+Put n e row row' Full = (length row ≡ n) × (row' ≡ row)
+
 module _ {E K : Type 0} {R : K → K → Ordering} (o : IsTotalOrder R) (key : E → K) where
   abbrev pub Ascending : List E → Type 0
   Ascending row = (i j : ℕ) (d : E) → i < j → j < length row → R (key (slice_index_or row i d)) (key (slice_index_or row j d)) ≡ Less

@@ -1,27 +1,36 @@
 // The elastic profile of a list of lots, and how much of its work overflows the windows.
 #![tactic(auto)]
 
+ghost use Rattle.std.specs.Prelude.{Ok};
 ghost use Rattle.elastic.specs.Overflow.{Answered, FewPoints, NoneIfSchedulable};
 
-use lots::{Lot, Refusal, is_lawful};
+use lots::{Lot, Refusal, Table};
 use profile::Profile;
 
+mod array_row;
 mod profile;
 mod row;
 
+pub use array_row::ArrayRow;
 pub use row::{Keyed, Place, Row};
 
-// The work that is left over at the latest lct, and the number of points of the profile.
+// The work that is left over at the latest lct of a table, and the number of points of its profile.
+pub fn overflow_of(table: Table<'_>) -> (u32, usize)
+    ensures answer { Answered table.entry.capacity table.entry.lots.now (Ok result) }
+    ensures points { FewPoints table.entry.lots.now (Ok result) }
+    ensures sound { NoneIfSchedulable table.entry.capacity table.entry.lots.now (Ok result) }
+{
+    let profile = Profile::of(table);
+    (profile.overflow(table.capacity), profile.len())
+}
+
+// The same of lots that may be no lawful table.
 pub fn overflow(capacity: u16, lots: &[Lot]) -> Result<(u32, usize), Refusal>
     ensures answer { Answered capacity lots.now result }
     ensures points { FewPoints lots.now result }
     ensures sound { NoneIfSchedulable capacity lots.now result }
 {
-    if !is_lawful(capacity, lots) {
-        return Err(Refusal::Unlawful);
-    }
-    let profile = Profile::of(lots);
-    Ok((profile.overflow(capacity), profile.len()))
+    Ok(overflow_of(Table::new(capacity, lots)?))
 }
 
 #[cfg(test)]

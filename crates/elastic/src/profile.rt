@@ -4,19 +4,19 @@ ghost use Rattle.std.specs.List.{AllByRecursion};
 ghost use Rattle.lots.specs.Limits.{horizon, max_capacity, max_lots};
 ghost use Rattle.lots.specs.Tables.{LawfulLot, Lawful};
 ghost use Rattle.lots.specs.declared.Lot.{Lot};
-ghost use Rattle.elastic.specs.Points.{at_est, at_ect, at_lct, Rising, Small, Entered, Profiles, point_at, altered, max_points, used};
+ghost use Rattle.elastic.specs.Points.{at_est, at_ect, at_lct, Small, Entered, Profiles, point_at, altered, max_points};
 ghost use Rattle.elastic.specs.Profile.{overflow as left_over};
-ghost use Rattle.elastic.specs.Rows.{Stored, Seated};
 ghost use Rattle.std.specs.Cmp.{nat_cmp_total};
 
-use crate::row::{Keyed, Place, Row};
-use lots::{Lot, MAX_LOTS};
+use crate::array_row::ArrayRow;
+use crate::row::{Keyed, Place};
+use lots::{Lot, MAX_LOTS, Table};
 
 // A profile has at most the est, the ect and the lct of each lot.
 const MAX_POINTS: usize = 3 * MAX_LOTS;
 
 // A minute, and by how much the available and the required trays change at it.
-#[derive(Clone, Copy)]
+#[derive(Clone, Copy, Default)]
 struct Point {
     minute: u16,
     available: i32,
@@ -81,52 +81,34 @@ impl Keyed for Point {
     }
 }
 
-// The first `len` points are in use, in the order of their minutes.
-#[derive(Clone, Copy)]
+// The points of a list of lots.
+#[derive(Drop)]
 pub(crate) struct Profile {
-    points: [Point; MAX_POINTS],
-    len: usize,
+    points: ArrayRow<Point, MAX_POINTS>,
 }
 
 impl Profile {
     // Adds to the two changes of the point at the place i.
     fn alter(&mut self, i: usize, change: Point)
-        requires within { i < max_points }
+        requires within { i < length self.old.points }
+        requires few { length self.old.points ≤ max_points }
         requires small { Small (max_capacity * max_points) (point_at self.old.points i) }
         requires small_change { Small max_capacity change }
-        ensures { (self.new.len ≡ self.old.len) × (self.new.points ≡ slice_set self.old.points i (altered (point_at self.old.points i) change)) }
+        ensures { self.new.points ≡ slice_set self.old.points i (altered (point_at self.old.points i) change) }
     {
-        let point = &mut self.points[i];
+        let row = &mut self.points;
+        let point = &mut row.cells[i];
         point.add(change);
-    }
-
-    // Puts a change as a point of its own, unless its minute has one.
-    fn put(&mut self, change: Point) -> Place
-        requires { Rising (used self.old) }
-        ensures stored { Stored change (used self.old) self.old.points (used self.new) self.new.points result }
-        ensures seated { Seated nat_cmp_total (λ p. p.minute) change (used self.old) result }
-        ensures cells { length self.old.points ≡ max_points }
-        ensures count { self.new.len ≡ length (used self.new) }
-        ensures rising { Rising (used self.new) }
-    {
-        let len = self.len;
-        let mut row = Row::over(&mut self.points, len);
-        let place = row.put(change);
-        let grown = row.len();
-        self.len = grown;
-        place
     }
 
     // Enters a change: as a point of its own, or with the changes of the point that its minute has.
     fn enter(&mut self, change: Point)
-        requires free { length (used self.old) < max_points }
-        requires rising { Rising (used self.old) }
-        requires small { AllByRecursion (Small (max_capacity * max_points)) (used self.old) }
+        requires free { length self.old.points < max_points }
+        requires small { AllByRecursion (Small (max_capacity * max_points)) self.old.points }
         requires small_change { Small max_capacity change }
-        ensures count { self.new.len ≡ length (used self.new) }
-        ensures entered { Entered (used self.old) change (used self.new) }
+        ensures { Entered self.old.points change self.new.points }
     {
-        match self.put(change) {
+        match self.points.put(change) {
             Place::Placed(_) => {}
             Place::Present(i) => self.alter(i, change),
             Place::Full => unreachable(),
@@ -136,9 +118,8 @@ impl Profile {
     // Adds a lot to the list whose profile this is.
     fn add(&mut self, lot: &Lot)
         requires lawful { LawfulLot max_capacity lot.now }
-        requires profile { (Ω : List Lot) × (length Ω < max_lots) × Profiles (used self.old) Ω }
-        ensures count { self.new.len ≡ length (used self.new) }
-        ensures profile { (Ω : List Lot) → Profiles (used self.old) Ω → Profiles (used self.new) (Ω ++ lot.now ∷ []) }
+        requires profile { (Ω : List Lot) × (length Ω < max_lots) × Profiles self.old.points Ω }
+        ensures { (Ω : List Lot) → Profiles self.old.points Ω → Profiles self.new.points (Ω ++ lot.now ∷ []) }
     {
         self.enter(Point::at_est(lot));
         self.enter(Point::at_ect(lot));
@@ -146,21 +127,13 @@ impl Profile {
     }
 
     // The profile of a lawful list.
-    pub(crate) fn of(lots: &[Lot]) -> Profile
-        requires { Lawful max_capacity lots.now }
-        ensures count { result.len ≡ length (used result) }
-        ensures profile { Profiles (used result) lots.now }
+    pub(crate) fn of(table: Table<'_>) -> Profile
+        ensures { Profiles result.points table.entry.lots.now }
     {
-        let unused = Point {
-            minute: 0,
-            available: 0,
-            required: 0,
-        };
         let mut profile = Profile {
-            points: [unused; MAX_POINTS],
-            len: 0,
+            points: ArrayRow::new(),
         };
-        for lot in lots {
+        for lot in table.lots {
             profile.add(lot);
         }
         profile
@@ -168,18 +141,17 @@ impl Profile {
 
     // How many points the profile has.
     pub(crate) fn len(&self) -> usize
-        ensures { result ≡ self.now.len }
+        ensures { result ≡ length self.now.points }
     {
-        self.len
+        self.points.as_slice().len()
     }
 
     // What is left over at the last point.
     pub(crate) fn overflow(&self, capacity: u16) -> u32
-        requires count { self.now.len ≡ length (used self.now) }
-        requires profile { (Ω : List Lot) × Lawful max_capacity Ω × Profiles (used self.now) Ω }
-        ensures { (Ω : List Lot) → Lawful max_capacity Ω → Profiles (used self.now) Ω → result ≡ left_over capacity Ω }
+        requires { (Ω : List Lot) × Lawful max_capacity Ω × Profiles self.now.points Ω }
+        ensures { (Ω : List Lot) → Lawful max_capacity Ω → Profiles self.now.points Ω → result ≡ left_over capacity Ω }
     {
-        walk(&self.points[0..self.len], capacity)
+        walk(self.points.as_slice(), capacity)
     }
 }
 

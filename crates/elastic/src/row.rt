@@ -4,8 +4,6 @@ ghost use Rattle.std.specs.List.{insert};
 ghost use Rattle.std.specs.Cmp.{IsTotalOrder, nat_cmp_total};
 ghost use Rattle.elastic.specs.Rows.{cells_of, row_of, Ascending, Sought, Stored, Seated};
 
-use std::cmp::Ordering;
-
 // Where an element came to stand.
 #[derive(Clone, Copy, PartialEq, Eq, Debug)]
 pub enum Place {
@@ -34,24 +32,6 @@ pub trait Keyed {
 pub struct Row<'a, E> {
     cells: &'a mut [E],
     len: usize,
-}
-
-// The place of the key in the row: where it stands, or else where it would.
-fn place_of<E: Keyed>(row: &[E], key: E::Key) -> Result<usize, usize>
-    ensures bound { MatchResult result (λ i. i < length row.now) (λ i. i ≤ length row.now) }
-    ensures found { (o : IsTotalOrder E.Key.Ord.cmp) → Ascending o E.keyed row.now → Sought o E.keyed key row.now result }
-{
-    let mut low = 0;
-    let mut high = row.len();
-    while low < high {
-        let middle = low + (high - low) / 2;
-        match row[middle].key().cmp(&key) {
-            Ordering::Less => low = middle + 1,
-            Ordering::Equal => return Ok(middle),
-            Ordering::Greater => high = middle,
-        }
-    }
-    Err(low)
 }
 
 // Puts the element at the place i of the first `len` cells, and moves those from i on by one.
@@ -84,7 +64,7 @@ impl<'a, E: Keyed + Copy> Row<'a, E> {
         ensures found { (o : IsTotalOrder E.Key.Ord.cmp) → Ascending o E.keyed (row_of self.now) → Sought o E.keyed key (row_of self.now) result }
     {
         let len = self.len();
-        place_of(&self.cells[0..len], key)
+        self.cells[..len].binary_search_by_key(&key, |element| element.key())
     }
 
     // Puts an element at the place of its key, unless the key is there or no cell is free.

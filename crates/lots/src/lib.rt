@@ -1,9 +1,13 @@
 // Lots, the law of their tables, and the numbers by which calls refuse.
 #![tactic(auto)]
 
-ghost use Rattle.std.specs.Prelude.{◌≡◌, ◌+◌, Decides};
+ghost use Rattle.std.specs.Prelude.{◌≡◌, ◌+◌, ◌↔◌, IsTrue};
 ghost use Rattle.lots.specs.Refusals.{refusal_number};
-ghost use Rattle.lots.specs.Tables.{ect as earliest_end, LawfulLot, Lawful};
+ghost use Rattle.lots.specs.Tables.{ect as earliest_end, lst as latest_start, LawfulLot, Lawful};
+
+mod table;
+
+pub use table::Table;
 
 // The last minute of the week, at which every lot is out.
 pub const HORIZON: u16 = 10_080;
@@ -17,7 +21,7 @@ pub const MAX_SHEET: usize = 16_384;
 pub const MIN_PRINT: usize = 32_768;
 
 // One lot of goods: it may go in at `est`, must be out by `lct`, runs for `p` minutes on `c` trays.
-#[derive(Clone, Copy, PartialEq, Eq, Debug)]
+#[derive(Clone, Copy, PartialEq, Eq, Default, Debug)]
 pub struct Lot {
     pub est: u16,
     pub lct: u16,
@@ -26,6 +30,12 @@ pub struct Lot {
 }
 
 impl Lot {
+    pub const fn new(est: u16, lct: u16, p: u16, c: u16) -> Lot
+        ensures { (result.est ≡ est) × (result.lct ≡ lct) × (result.p ≡ p) × (result.c ≡ c) }
+    {
+        Lot { est, lct, p, c }
+    }
+
     // The earliest minute at which the lot can be out.
     pub fn ect(&self) -> u32
         ensures { result ≡ earliest_end self.now }
@@ -33,9 +43,16 @@ impl Lot {
         u32::from(self.est) + u32::from(self.p)
     }
 
+    // The latest minute at which the lot can go in, and 0 where it never can.
+    pub fn lst(&self) -> u16
+        ensures { result ≡ latest_start self.now }
+    {
+        self.lct.saturating_sub(self.p)
+    }
+
     // Whether the lot is lawful in a table of this capacity.
     pub fn is_lawful(&self, capacity: u16) -> bool
-        ensures { Decides result (LawfulLot capacity self.now) }
+        ensures { IsTrue result ↔ LawfulLot capacity self.now }
     {
         1 <= self.p
             && 1 <= self.c
@@ -47,7 +64,7 @@ impl Lot {
 
 // Whether capacity and lots are a lawful table.
 pub fn is_lawful(capacity: u16, lots: &[Lot]) -> bool
-    ensures { Decides result (Lawful capacity lots.now) }
+    ensures { IsTrue result ↔ Lawful capacity lots.now }
 {
     if capacity < 1 || capacity > MAX_CAPACITY {
         return false;
@@ -81,12 +98,12 @@ pub enum Refusal {
     Commands = 16,
 }
 
-impl Refusal {
-    // The number that stands for this refusal.
-    pub fn number(self) -> u8
-        ensures { result ≡ refusal_number self }
-    {
-        self as u8
+// The number that stands for a refusal.
+impl From<Refusal> for u8 {
+    ghost from_gives = { λ refusal number. number ≡ refusal_number refusal };
+
+    fn from(refusal: Refusal) -> u8 {
+        refusal as u8
     }
 }
 
@@ -159,9 +176,31 @@ mod tests {
     }
 
     #[test]
+    fn a_run_longer_than_its_window_can_never_go_in(rt: HostRuntime) {
+        assert_eq!(rt;
+            Lot {
+                lct: 9,
+                p: 3,
+                ..WEEK
+            }
+            .lst(),
+            6
+        );
+        assert_eq!(rt;
+            Lot {
+                lct: 3,
+                p: 9,
+                ..WEEK
+            }
+            .lst(),
+            0
+        );
+    }
+
+    #[test]
     fn refusals_have_their_numbers(rt: HostRuntime) {
-        assert_eq!(rt; Refusal::Capacity.number(), 1);
-        assert_eq!(rt; Refusal::Unlawful.number(), 9);
-        assert_eq!(rt; Refusal::Commands.number(), 16);
+        assert_eq!(rt; u8::from(Refusal::Capacity), 1);
+        assert_eq!(rt; u8::from(Refusal::Unlawful), 9);
+        assert_eq!(rt; u8::from(Refusal::Commands), 16);
     }
 }

@@ -1,11 +1,10 @@
--- Lots added at the end: a schedule of the longer table holds one of the shorter.
-use Rattle.std.proofs.Common.{◌≡◌, ℕ, ◌≤◌, List, [], ◌∷◌, ◌++◌, length, take, drop, subst, arith}
-use Rattle.std.proofs.lemmas.List.Elements.{length_all_zip}
+-- A lot added at the end: a schedule of the longer table holds one of the shorter.
+use Rattle.std.proofs.Common.{◌≡◌, ℕ, ◌≤◌, List, [], ◌∷◌, ◌++◌, length, take, drop, refl, subst, arith}
+use Rattle.std.proofs.lemmas.List.Elements.{length_all_zip, AllZip-push}
 use Rattle.lots.specs.Schedules.{load, Placed, Schedule}
 use Rattle.lots.specs.declared.Lot.{Lot}
 use Rattle.rule.specs.Meanings.{SameWork, Keeps}
 use Rattle.rule.proofs.Schedules.{schedule_same}
-use Rattle.rule.specs.Laws.Tables.{same_work_refl}
 
 placed_front : (xs zs : List Lot) (ss : List ℕ) → Placed (xs ++ zs) ss → Placed xs (take (length xs) ss)
 placed_front [] zs ss h = tt
@@ -28,20 +27,14 @@ load_front t [] zs ss = omega arith
 load_front t (x ∷ xs) zs [] = omega arith
 load_front t (x ∷ xs) zs (s ∷ ss) = omega (arith, load_front t xs zs ss)
 
-pub append_work : (A B zs : List Lot) → SameWork A B → SameWork (A ++ zs) (B ++ zs)
-append_work [] [] zs w = same_work_refl zs
-append_work [] (y ∷ ys) zs w = absurd w
-append_work (x ∷ xs) [] zs w = absurd w
-append_work (x ∷ xs) (y ∷ ys) zs w = (w.0, append_work xs ys zs w.1)
-
--- where each schedule of A is one of B, so with more lots at the end of both
-pub append_keeps : (C : ℕ) (A B zs : List Lot) → SameWork A B → Keeps C A B → Keeps C (A ++ zs) (B ++ zs)
-append_keeps C A B zs w keep ss s =
+-- where each schedule of A is one of B, so with one lot more at the end of both
+pub push_keeps : (C : ℕ) (A B : List Lot) (x : Lot) → SameWork A B → Keeps C A B → Keeps C (A ++ x ∷ []) (B ++ x ∷ [])
+push_keeps C A B x w keep ss s =
     let n : length A ≡ length B = length_all_zip _ A B w in
     let front : Schedule C A (take (length A) ss) = record {
-      placed = placed_front A zs ss s.placed;
-      within = λ t. omega (arith, load_front t A zs ss, s.within t);
+      placed = placed_front A (x ∷ []) ss s.placed;
+      within = λ t. omega (arith, load_front t A (x ∷ []) ss, s.within t);
     } in
     let p : Placed B (take (length B) ss) = subst (λ k. Placed B (take k ss)) n (keep (take (length A) ss) front).placed in
-    let q : Placed zs (drop (length B) ss) = subst (λ k. Placed zs (drop k ss)) n (placed_rest A zs ss s.placed) in
-    schedule_same C (A ++ zs) (B ++ zs) ss (append_work A B zs w) (placed_append B zs ss p q) s
+    let q : Placed (x ∷ []) (drop (length B) ss) = subst (λ k. Placed (x ∷ []) (drop k ss)) n (placed_rest A (x ∷ []) ss s.placed) in
+    schedule_same C (A ++ x ∷ []) (B ++ x ∷ []) ss (AllZip-push _ A B x x w (refl, refl)) (placed_append B (x ∷ []) ss p q) s

@@ -1,5 +1,5 @@
 -- After every history the plan answers to its book; and whatever a call answers, its histories go on.
-use Rattle.std.proofs.Common.{ℕ, List, ◌∷◌, Ok, Err, Result, inl, inr, arith}
+use Rattle.std.proofs.Common.{ℕ, List, ◌∷◌, Ok, Err, Result, arith}
 use Rattle.lots.specs.declared.Lot.{Lot}
 use Rattle.lots.specs.declared.Refusal.{Refusal}
 use Rattle.rule.specs.Meanings.{Meaning, Sound}
@@ -12,7 +12,7 @@ use Rattle.plan.specs.Promise.{Promise}
 use Rattle.plan.proofs.Tallies.{Tally, tally_empty, tally_opened, tally_step, tally_answers}
 
 pub one_tray : Passed (open_checks 1)
-one_tray = (λ h. elim h [ inl e ↦ omega arith | inr l ↦ omega arith ], tt)
+one_tray = grind arith
 
 tally : {es : List Entry} {T : Table} → History es T → Tally (book es) T
 tally new = tally_empty 1 one_tray

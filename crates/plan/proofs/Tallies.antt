@@ -1,18 +1,17 @@
 -- The plan's step and the book's entry keep the two in tally.
-use Rattle.std.proofs.Common.{◌≡◌, ℕ, ◌+◌, ◌<◌, ◌≤◌, max, List, [], ◌∷◌, ◌++◌, length, sym, refl, ◌∙◌, subst, ap₂, arith}
-use Rattle.std.proofs.lemmas.List.Elements.{length_all_zip}
+use Rattle.std.proofs.Common.{◌≡◌, ℕ, ◌+◌, ◌<◌, max, List, [], ◌∷◌, length, sym, refl, ◌∙◌, subst, ap₂, arith}
+use Rattle.std.proofs.lemmas.List.Elements.{length_all_zip, AllZip-push}
 use Rattle.lots.specs.Schedules.{Schedule, end}
-use Rattle.lots.specs.Tables.{Lawful}
 use Rattle.lots.specs.declared.Lot.{Lot}
 use Rattle.rule.specs.Meanings.{SameWork, Keeps}
 use Rattle.rule.proofs.Chains.{Kept, kept_back, settled_kept}
 use Rattle.rule.specs.Laws.Tables.{same_work_sym, same_work_trans}
 use Rattle.plan.specs.Tables.{Table, LawfulTable, ScheduleOf, SameSchedules, Best, empty, with_lot, with_between}
-use Rattle.plan.specs.Calls.{Passed, open_checks, narrow_checks}
+use Rattle.plan.specs.Calls.{Passed, open_checks, admit_checks, narrow_checks}
 use Rattle.plan.specs.Book.{opening, admitting, narrowing, tightening, Entry, accepted, refused, enter}
 use Rattle.plan.specs.History.{Step}
 use Rattle.plan.specs.Promise.{AnswersTo}
-use Rattle.plan.proofs.Appends.{append_work, append_keeps}
+use Rattle.plan.proofs.Appends.{push_keeps}
 use Rattle.plan.proofs.Windows.{both_between_work, between_keeps}
 use Rattle.plan.proofs.Tables.{empty_lawful, with_lot_lawful, with_between_lawful}
 
@@ -27,14 +26,13 @@ pub record Tally (B T : Table) : Type 0 where
 pub tally_empty : (C : ℕ) → Passed (open_checks C) → Tally (empty C) (empty C)
 tally_empty C k = record { trays = refl; work = tt; there = λ ss s. s; back = λ ss s. s; lawful = empty_lawful C k }
 
--- any lots added to both, where the plan's table stays lawful
-pub tally_append : (zs : List Lot) (B T : Table) → Lawful T.capacity (T.lots ++ zs) → Tally B T → Tally (record { capacity = B.capacity; lots = B.lots ++ zs }) (record { capacity = T.capacity; lots = T.lots ++ zs })
-tally_append zs B T ok h = record {
+tally_with_lot : (x : Lot) (B T : Table) → Passed (admit_checks x T.capacity (length T.lots)) → Tally B T → Tally (with_lot x B) (with_lot x T)
+tally_with_lot x B T k h = record {
   trays = h.trays;
-  work = append_work B.lots T.lots zs h.work;
-  there = append_keeps T.capacity B.lots T.lots zs h.work h.there;
-  back = append_keeps T.capacity T.lots B.lots zs (same_work_sym B.lots T.lots h.work) h.back;
-  lawful = ok;
+  work = AllZip-push _ B.lots T.lots x x h.work (refl, refl);
+  there = push_keeps T.capacity B.lots T.lots x h.work h.there;
+  back = push_keeps T.capacity T.lots B.lots x (same_work_sym B.lots T.lots h.work) h.back;
+  lawful = with_lot_lawful x T h.lawful k;
 }
 
 tally_between : (i a b : ℕ) (B T : Table) → Passed (narrow_checks i a b T.lots) → Tally B T → Tally (with_between i a b B) (with_between i a b T)
@@ -65,7 +63,7 @@ tally_opened C T U s = subst (Tally (empty C)) (sym s.1) (tally_empty C s.0)
 
 pub tally_step : (e : Entry) (B T U : Table) → Step e T U → Tally B T → Tally (enter e B) U
 tally_step (accepted (opening C)) B T U s h = tally_opened C T U s
-tally_step (accepted (admitting x)) B T U s h = subst (Tally (with_lot x B)) (sym s.1.1.1) (tally_append (x ∷ []) B T (with_lot_lawful x T h.lawful s.1.0) h)
+tally_step (accepted (admitting x)) B T U s h = subst (Tally (with_lot x B)) (sym s.1.1.1) (tally_with_lot x B T s.1.0 h)
 tally_step (accepted (narrowing i a b)) B T U s h = subst (Tally (with_between i a b B)) (sym s.1) (tally_between i a b B T s.0 h)
 tally_step (accepted (tightening m)) B T U s h =
     let k = settled_kept m s.0 T.capacity T.lots U.lots h.lawful s.1 s.2 s.3.settled in
@@ -95,7 +93,7 @@ best_same : (T U : Table) (E : ℕ) (ss : List ℕ) → SameWork T.lots U.lots �
 best_same T U E ss w there back b = record {
   schedule = there ss b.schedule;
   ends = end_same T.lots U.lots ss w ∙ b.ends;
-  least = λ us s. subst (λ n. E ≤ n) (sym (end_same T.lots U.lots us w)) (b.least us (back us s));
+  least = λ us s. omega (arith, end_same T.lots U.lots us w, b.least us (back us s));
 }
 
 pub tally_answers : {B T : Table} → Tally B T → AnswersTo B T

@@ -1,11 +1,8 @@
 -- One lot's window made tighter: its schedules are those that keep to the new bounds.
-use Rattle.std.proofs.Common.{◌≡◌, ℕ, zero, suc, ◌+◌, ◌<◌, ◌≤◌, List, [], ◌∷◌, length, get_or, set, sym, refl, subst, arith}
-use Rattle.std.proofs.lemmas.List.{length-set}
+use Rattle.std.proofs.Common.{◌≡◌, ℕ, zero, suc, ◌+◌, ◌<◌, ◌≤◌, List, [], ◌∷◌, length, get_or, set, refl, arith}
 use Rattle.std.proofs.lemmas.List.Elements.{length_all_zip, AllZip-get_or}
-use Rattle.std.proofs.ByRecursion.{All-set, All-get_or}
-use Rattle.lots.specs.Limits.{max_lots}
 use Rattle.lots.specs.Schedules.{Placed, Schedule}
-use Rattle.lots.specs.Tables.{ect, lot_at, LawfulLot, Lawful}
+use Rattle.lots.specs.Tables.{lot_at}
 use Rattle.lots.specs.declared.Lot.{Lot}
 use Rattle.rule.specs.Meanings.{SameWork, Keeps}
 use Rattle.rule.proofs.Schedules.{schedule_same}
@@ -54,14 +51,3 @@ between_keeps C i a b A B h w keep ss s =
     let in_b = keep ss in_a in
     let same : ((lot_at B i).p ≡ (lot_at A i).p) × ((lot_at B i).c ≡ (lot_at A i).c) = AllZip-get_or _ A B i _ _ w h in
     schedule_same C B (lots_between i a b B) ss (between_work i a b B) (placed_between i a b B ss k in_b.placed (omega arith)) in_b
-
--- the table stays lawful where the run still fits
-pub between_lawful : (C i a b : ℕ) (T : List Lot) → Lawful C T → i < length T → ect (between a b (lot_at T i)) ≤ (between a b (lot_at T i)).lct → Lawful C (lots_between i a b T)
-between_lawful C i a b T ok h fits =
-    let f : LawfulLot C (lot_at T i) = All-get_or (LawfulLot C) T i _ h ok.each in
-    record {
-      some_trays = ok.some_trays;
-      few_trays = ok.few_trays;
-      few_lots = subst (λ n. n ≤ max_lots) (sym (length-set T i (between a b (lot_at T i)))) ok.few_lots;
-      each = All-set (LawfulLot C) T i (between a b (lot_at T i)) (omega arith) ok.each;
-    }

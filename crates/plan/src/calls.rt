@@ -8,7 +8,8 @@ ghost use Rattle.plan.specs.Held.{held};
 
 use crate::Plan;
 use crate::checks::{admission, narrowed};
-use lots::{Lot, MAX_CAPACITY, MAX_LOTS, Refusal};
+use arrayvec::ArrayVec;
+use lots::{Lot, MAX_CAPACITY, Refusal};
 use rule::{Rule, Verdict, settle};
 
 impl Plan {
@@ -17,16 +18,9 @@ impl Plan {
         ensures exact { held result ≡ empty 1 }
         ensures begins { History [] (held result) }
     {
-        let unused = Lot {
-            est: 0,
-            lct: 0,
-            p: 0,
-            c: 0,
-        };
         Plan {
             capacity: 1,
-            cells: [unused; MAX_LOTS],
-            len: 0,
+            lots: ArrayVec::new(),
         }
     }
 
@@ -40,7 +34,7 @@ impl Plan {
             return Err(Refusal::Capacity);
         }
         self.capacity = capacity;
-        self.len = 0;
+        self.lots.clear();
         Ok(())
     }
 
@@ -49,10 +43,9 @@ impl Plan {
         ensures exact { Admitted lot (held self.old) (held self.new) result }
         ensures follows { Follows (noted (admitting lot) result) (held self.old) (held self.new) }
     {
-        admission(lot, self.capacity, self.len)?;
-        let number = self.len;
-        self.cells[number] = lot;
-        self.len = number + 1;
+        let number = self.lots.len();
+        admission(lot, self.capacity, number)?;
+        self.lots.push(lot);
         Ok(number)
     }
 
@@ -61,11 +54,9 @@ impl Plan {
         ensures exact { Narrowed lot from to (held self.old) (held self.new) result }
         ensures follows { Follows (noted (narrowing lot from to) result) (held self.old) (held self.new) }
     {
-        if lot >= self.len {
-            return Err(Refusal::NoSuchLot);
-        }
-        let tighter = narrowed(self.cells[lot], from, to)?;
-        self.cells[lot] = tighter;
+        let place = self.lots.get_mut(lot).ok_or(Refusal::NoSuchLot)?;
+        let tighter = narrowed(*place, from, to)?;
+        *place = tighter;
         Ok(())
     }
 
@@ -74,11 +65,20 @@ impl Plan {
         ensures exact { Tightened (R.meaning rule.now) (held self.old) (held self.new) result.0 result.1 }
         ensures follows { Follows (accepted (tightening (R.meaning rule.now))) (held self.old) (held self.new) }
     {
-        let len = self.len;
-        match settle(rule, self.capacity, &mut self.cells[0..len]) {
+        // No `unwrap`, which reads as if it could stop the program: a lawful table is never refused.
+        match settle(rule, self.capacity, self.lots.as_mut_slice()) {
             Ok(answer) => answer,
             Err(_) => unreachable(),
         }
+    }
+}
+
+// The new plan.
+impl Default for Plan {
+    ghost is_default = { λ plan. (held plan ≡ empty 1) × History [] (held plan) };
+
+    fn default() -> Plan {
+        Self::new()
     }
 }
 
@@ -109,7 +109,7 @@ mod tests {
         assert_eq!(rt; plan.open(0), Err(Refusal::Capacity));
         assert_eq!(rt; plan.open(201), Err(Refusal::Capacity));
         assert_eq!(rt; plan.capacity(), 1);
-        assert_eq!(rt; plan.lots(), &[SHORT][0..1]);
+        assert_eq!(rt; plan.lots(), [SHORT].as_slice());
         assert_eq!(rt; plan.open(200), Ok(()));
         assert_eq!(rt; plan.capacity(), 200);
         assert_eq!(rt; plan.lots().len(), 0);
@@ -122,7 +122,7 @@ mod tests {
             assert_eq!(rt; plan.admit(WEEK), Ok(number));
         }
         assert_eq!(rt; plan.admit(Lot { c: 0, ..WEEK }), Err(Refusal::TableFull));
-        assert_eq!(rt; plan.lots(), &[WEEK; 64][0..64]);
+        assert_eq!(rt; plan.lots(), [WEEK; 64].as_slice());
     }
 
     #[test]
@@ -158,7 +158,7 @@ mod tests {
         assert_eq!(rt; plan.narrow(0, 7, 10_080), Err(Refusal::NoRoom));
         assert_eq!(rt; plan.narrow(0, 0, 4), Err(Refusal::NoRoom));
         assert_eq!(rt; plan.narrow(0, 4, 6), Err(Refusal::NoRoom));
-        assert_eq!(rt; plan.lots(), &[SHORT][0..1]);
+        assert_eq!(rt; plan.lots(), [SHORT].as_slice());
     }
 
     #[test]
@@ -167,18 +167,19 @@ mod tests {
         assert_eq!(rt; plan.admit(WEEK), Ok(0));
         assert_eq!(rt; plan.admit(SHORT), Ok(1));
         assert_eq!(rt; plan.narrow(1, 0, 10_080), Ok(()));
-        assert_eq!(rt; plan.lots(), &[WEEK, SHORT][0..2]);
+        assert_eq!(rt; plan.lots(), [WEEK, SHORT].as_slice());
         assert_eq!(rt; plan.narrow(1, 3, 6), Ok(()));
         assert_eq!(rt;
             plan.lots(),
-            &[
+            [
                 WEEK,
                 Lot {
                     est: 3,
                     lct: 6,
                     ..SHORT
                 },
-            ][0..2]
+            ]
+            .as_slice()
         );
     }
 }

@@ -1,10 +1,10 @@
 // A plan: the table of a machine's lots, which its calls alter in place and keep lawful.
 #![tactic(auto)]
 
-ghost use Rattle.std.specs.Prelude.{◌≤◌, take};
-ghost use Rattle.lots.specs.Limits.{max_lots};
+ghost use Rattle.std.proofs.Props.{props};
 ghost use Rattle.lots.specs.Tables.{Lawful};
 
+use arrayvec::ArrayVec;
 use lots::{Lot, MAX_LOTS};
 
 mod calls;
@@ -14,11 +14,10 @@ mod views;
 
 pub use promise::plans_answer_to_their_books;
 
+// No `Model`: behind it a caller could not read that the table is lawful.
 #[derive(Drop)]
 pub struct Plan {
     capacity: u16,
-    cells: [Lot; MAX_LOTS],
-    len: usize,
-    ghost within: { len ≤ max_lots },
-    ghost lawful: { ∥ Lawful capacity (take len cells) ∥₁ },
+    lots: ArrayVec<Lot, MAX_LOTS>,
+    pub ghost lawful: { Lawful capacity lots.items } by { Prim.hlevel props },
 }

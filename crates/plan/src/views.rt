@@ -16,6 +16,6 @@ impl Plan {
     pub fn lots(&self) -> &[Lot]
         ensures exact { result.now ≡ (held self.now).lots }
     {
-        &self.cells[0..self.len]
+        self.lots.as_slice()
     }
 }

@@ -90,24 +90,18 @@ chain_few m p C T ok (moves {U = U} e ne h) =
     let f = moved_falls m p C T U ok e ne in
     omega (arith, f.1, chain_few m p C U f.0 h)
 
-to_same : (o : Outcome) (U V : List Lot) → o ≡ to U → o ≡ to V → U ≡ V
-to_same o U V e f = cc
-
-not_dead : (o : Outcome) (U : List Lot) → o ≡ to U → o ≡ dead → ⊥
-not_dead o U e f = let z : ◌≡◌ {A = ℕ} 0 1 = cc in omega arith
-
 -- two chains from one table are as long, and come to the same
 pub chain_same : (m : Meaning) (C : ℕ) (T : List Lot) {j k : ℕ} {o q : Outcome} → Chain m C T j o → Chain m C T k q → (j ≡ k) × (o ≡ q)
 chain_same m C T (still e) (still f) = (refl, refl)
-chain_same m C T (still e) (dies f) = absurd (not_dead (m C T) T e f)
-chain_same m C T (still e) (moves {U = V} f ne g) = absurd (ne (to_same (m C T) V T f e))
-chain_same m C T (dies e) (still f) = absurd (not_dead (m C T) T f e)
+chain_same m C T (still e) (dies f) = absurd (cc)
+chain_same m C T (still e) (moves {U = V} f ne g) = absurd (ne (cc))
+chain_same m C T (dies e) (still f) = absurd (cc)
 chain_same m C T (dies e) (dies f) = (refl, refl)
-chain_same m C T (dies e) (moves {U = V} f ne g) = absurd (not_dead (m C T) V f e)
-chain_same m C T (moves {U = U} e ne h) (still f) = absurd (ne (to_same (m C T) U T e f))
-chain_same m C T (moves {U = U} e ne h) (dies f) = absurd (not_dead (m C T) U e f)
+chain_same m C T (dies e) (moves {U = V} f ne g) = absurd (cc)
+chain_same m C T (moves {U = U} e ne h) (still f) = absurd (ne (cc))
+chain_same m C T (moves {U = U} e ne h) (dies f) = absurd (cc)
 chain_same m C T (moves {U = U} {o = o} e ne h) (moves {U = V} {k = k} {o = q} f nf g) =
-    let s = to_same (m C T) V U f e in
+    let s : V ≡ U = cc in
     let r = chain_same m C U h (subst (λ W. Chain m C W k q) s g) in
     (ap suc r.0, r.1)
 

@@ -1,8 +1,8 @@
 -- Bounds that every schedule keeps may be raised to.
-use Rattle.std.proofs.Common.{◌≡◌, ℕ, suc, ◌+◌, ◌<◌, ◌≤◌, Bool, true, false, cond, ◌&&◌, leb, List, [], ◌∷◌, ◌++◌, length, get_or, take, drop, set, sym, refl, ap, ◌∙◌, subst, ap₂, add-zero, zero-add, add-one, arith}
+use Rattle.std.proofs.Common.{◌≡◌, ◌≢◌, ℕ, suc, ◌+◌, ◌<◌, ◌≤◌, Bool, true, false, cond, ◌&&◌, leb, List, [], ◌∷◌, length, get_or, drop, set, sym, refl, ap, ap₂, ◌∙◌, subst, add-zero, zero-add, add-one, get_or-set_same, get_or-set_other, below_more, arith}
 use Rattle.std.specs.List.{AllByRecursion}
+use Rattle.std.proofs.lemmas.List.{at_drop_more}
 use Rattle.std.proofs.lemmas.Bool.{leb-true, and_parts, le-leb, and_from, true≢false}
-use Rattle.std.proofs.lemmas.List.{append-nil, append_assoc, take_all, drop_all, at_drop_more, drop_more, take_more, length-append, length-take-le, get_or_at, get_or-set_same, set_at, set-get_or}
 use Rattle.lots.specs.Schedules.{Placed, Schedule}
 use Rattle.lots.specs.Tables.{ect, lot_at, LawfulLot, Lawful}
 use Rattle.lots.specs.declared.Lot.{Lot}
@@ -97,85 +97,54 @@ Changed Still T U = U ≡ T
 Changed Moved T U = U ≡ T → ⊥
 Changed Dead T U = ⊥
 
-pub changed_same : (v v' : Verdict) (T U U' : List Lot) → v' ≡ v → U' ≡ U → Changed v T U → Changed v' T U'
-changed_same v v' T U U' e d h = subst (λ w. Changed w T U') (sym e) (subst (Changed v T) (sym d) h)
+-- the loop that tests, one lot more
+pub fit_more : (bound : ℕ → ℕ) (T : List Lot) (i : ℕ) → i < length T → all_fit (later_all bound i (drop i T)) ≡ (leb (ect (later (bound i) (lot_at T i))) (lot_at T i).lct && all_fit (later_all bound (i + 1) (drop (i + 1) T)))
+fit_more bound T i h =
+    at_drop_more (λ xs. all_fit (later_all bound i xs)) T i _ h
+    ∙ ap (λ n. leb (ect (later (bound i) (lot_at T i))) (lot_at T i).lct && all_fit (later_all bound n (drop (i + 1) T))) (sym (add-one i))
 
--- the loops that test and write, one lot more
-module _ (bound : ℕ → ℕ) (T : List Lot) (i : ℕ) (h : i < length T) where
-  fit_more : all_fit (later_all bound i (drop i T)) ≡ (leb (ect (later (bound i) (lot_at T i))) (lot_at T i).lct && all_fit (later_all bound (i + 1) (drop (i + 1) T)))
-  fit_more =
-      at_drop_more (λ xs. all_fit (later_all bound i xs)) T i _ h
-      ∙ ap (λ n. leb (ect (later (bound i) (lot_at T i))) (lot_at T i).lct && all_fit (later_all bound n (drop (i + 1) T))) (sym (add-one i))
+-- the first i lots start at their bound or later, and the others are as they were
+pub record RaisedUpTo (bound : ℕ → ℕ) (T U : List Lot) (i : ℕ) : Type 0 where
+  pub raised : (j : ℕ) → j < i → lot_at U j ≡ later (bound j) (lot_at T j)
+  pub rest : (j : ℕ) → i ≤ j → lot_at U j ≡ lot_at T j
 
-  module _ (b : Bool) (q : ℕ) (is : q ≡ bound i) (told : b ≡ leb (ect (later q (lot_at T i))) (lot_at T i).lct) where
-    fit_by : all_fit (later_all bound i (drop i T)) ≡ (b && all_fit (later_all bound (i + 1) (drop (i + 1) T)))
-    fit_by = fit_more ∙ ap (λ d. d && all_fit (later_all bound (i + 1) (drop (i + 1) T))) (ap (λ n. leb (ect (later n (lot_at T i))) (lot_at T i).lct) (sym is) ∙ sym told)
+-- the loop that writes, one lot more: q is the bound, and V the table after the turn
+module _ {bound : ℕ → ℕ} {T U V : List Lot} {i q : ℕ} (r : RaisedUpTo bound T U i) (h : i < length U) (is : q ≡ bound i) where
+  raised_more : (z : Lot) → V ≡ set U i z → z ≡ later (bound i) (lot_at U i) → RaisedUpTo bound T V (i + 1)
+  raised_more z made new = record {
+    raised = below_more _ _ (λ j k. let ne : j ≢ i = omega arith in rw (made, get_or-set_other) (r.raised j k))
+        (rw (made, get_or-set_same, new, r.rest i (omega arith)) refl);
+    rest = λ j k. let ne : j ≢ i = omega arith in rw (made, get_or-set_other) (r.rest j (omega arith));
+  }
 
-    pub fit_on : b ≡ true → all_fit (later_all bound (i + 1) (drop (i + 1) T)) ≡ all_fit (later_all bound i (drop i T))
-    fit_on held = sym (fit_by ∙ ap (λ d. d && all_fit (later_all bound (i + 1) (drop (i + 1) T))) held)
+  pub kept_later : q ≤ (lot_at U i).est → V ≡ set U i (lot_at U i) → RaisedUpTo bound T V (i + 1)
+  kept_later low made = raised_more _ made (lot_path _ _ (omega arith) refl refl refl)
 
-    pub fit_ends : b ≡ false → all_fit (later_all bound i (drop i T)) ≡ false
-    fit_ends failed = fit_by ∙ ap (λ d. d && all_fit (later_all bound (i + 1) (drop (i + 1) T))) failed
+  module _ (high : (lot_at U i).est < q) (made : V ≡ set U i (record { est = q; lct = (lot_at U i).lct; p = (lot_at U i).p; c = (lot_at U i).c })) where
+    pub moved_later : RaisedUpTo bound T V (i + 1)
+    moved_later = raised_more _ made (lot_path _ _ (omega arith) refl refl refl)
 
-  later_push : (k : ℕ) (xs : List Lot) (x : Lot) → later_all bound k (xs ++ (x ∷ [])) ≡ later_all bound k xs ++ (later (bound (k + length xs)) x ∷ [])
-  later_push k [] x = ap (λ n. later (bound n) x ∷ []) (sym (add-zero k))
-  later_push k (y ∷ ys) x = ap (λ zs. later (bound k) y ∷ zs) (later_push (suc k) ys x ∙ ap (λ n. later_all bound (suc k) ys ++ (later (bound n) x ∷ [])) (omega arith))
+    pub moved_other : V ≡ T → ⊥
+    moved_other same =
+        let there = get_or-set_same U i (record { est = q; lct = (lot_at U i).lct; p = (lot_at U i).p; c = (lot_at U i).c }) _ h in
+        let start = ap (λ (x : Lot). x.est) (sym there ∙ ap (λ xs. lot_at xs i) (sym made ∙ same) ∙ sym (r.rest i (omega arith))) in
+        omega arith
 
-  later_more : later_all bound 0 (take (i + 1) T) ≡ later_all bound 0 (take i T) ++ (later (bound i) (lot_at T i) ∷ [])
-  later_more =
-      ap (later_all bound 0) (take_more T i _ h)
-      ∙ later_push 0 (take i T) (lot_at T i)
-      ∙ ap (λ n. later_all bound 0 (take i T) ++ (later (bound n) (lot_at T i) ∷ [])) (zero-add (length (take i T)) ∙ length-take-le i T (omega arith))
-
-  module _ (U : List Lot) (inv : U ≡ later_all bound 0 (take i T) ++ drop i T) where
-    split : U ≡ later_all bound 0 (take i T) ++ (lot_at T i ∷ drop (i + 1) T)
-    split = inv ∙ ap (λ ys. later_all bound 0 (take i T) ++ ys) (drop_more T i _ h)
-
-    front : length (later_all bound 0 (take i T)) ≡ i
-    front = later_length bound 0 (take i T) ∙ length-take-le i T (omega arith)
-
-    pub not_yet_later : lot_at U i ≡ lot_at T i
-    not_yet_later = ap (λ xs. lot_at xs i) split ∙ get_or_at (later_all bound 0 (take i T)) (lot_at T i) (drop (i + 1) T) _ i front
-
-    pub set_later : set U i (later (bound i) (lot_at T i)) ≡ later_all bound 0 (take (i + 1) T) ++ drop (i + 1) T
-    set_later =
-        ap (λ xs. set xs i (later (bound i) (lot_at T i))) split
-        ∙ set_at (later_all bound 0 (take i T)) (lot_at T i) (drop (i + 1) T) (later (bound i) (lot_at T i)) i front
-        ∙ sym (append_assoc (later_all bound 0 (take i T)) (later (bound i) (lot_at T i) ∷ []) (drop (i + 1) T))
-        ∙ ap (λ xs. xs ++ drop (i + 1) T) (sym later_more)
-
-    same_later : bound i ≤ (lot_at T i).est → later (bound i) (lot_at T i) ≡ lot_at T i
-    same_later low = lot_path _ _ (omega arith) refl refl refl
-
-    -- as the loop of `raise` has it: q is the bound, and V the table after the turn
-    module _ (q : ℕ) (is : q ≡ bound i) where
-      pub kept_later : q ≤ (lot_at U i).est → U ≡ later_all bound 0 (take (i + 1) T) ++ drop (i + 1) T
-      kept_later low =
-          let start = ap (λ (x : Lot). x.est) not_yet_later in
-          sym (set-get_or U i _) ∙ ap (set U i) (not_yet_later ∙ sym (same_later (omega arith))) ∙ set_later
-
-      module _ (high : (lot_at U i).est < q) (V : List Lot) (made : V ≡ set U i (record { est = q; lct = (lot_at U i).lct; p = (lot_at U i).p; c = (lot_at U i).c })) where
-        written : V ≡ set U i (later (bound i) (lot_at T i))
-        written =
-            let start = ap (λ (x : Lot). x.est) not_yet_later in
-            made ∙ ap (set U i) (lot_path _ _ (omega arith) (ap (λ (x : Lot). x.lct) not_yet_later) (ap (λ (x : Lot). x.p) not_yet_later) (ap (λ (x : Lot). x.c) not_yet_later))
-
-        pub moved_later : V ≡ later_all bound 0 (take (i + 1) T) ++ drop (i + 1) T
-        moved_later = written ∙ set_later
-
-        pub moved_other : V ≡ T → ⊥
-        moved_other same =
-            let there = get_or-set_same U i (later (bound i) (lot_at T i)) _ (omega (arith, ap length split, length-append (later_all bound 0 (take i T)) (lot_at T i ∷ drop (i + 1) T), front)) in
-            let start = ap (λ (x : Lot). x.est) (sym there ∙ ap (λ xs. lot_at xs i) (sym written ∙ same)) in
-            let before = ap (λ (x : Lot). x.est) not_yet_later in
-            omega arith
+-- lots that each start at their bound or later
+each_later : (bound : ℕ → ℕ) (k : ℕ) (T U : List Lot) → length U ≡ length T → ((j : ℕ) → j < length T → lot_at U j ≡ later (bound (k + j)) (lot_at T j)) → U ≡ later_all bound k T
+each_later bound k [] [] same each = refl
+each_later bound k [] (y ∷ ys) same each = absurd (omega arith)
+each_later bound k (x ∷ xs) [] same each = absurd (omega arith)
+each_later bound k (x ∷ xs) (y ∷ ys) same each =
+    ap₂ ◌∷◌ (rw add-zero at (each 0 (omega arith)))
+    (each_later bound (suc k) xs ys (omega arith) (λ j h. subst (λ n. lot_at ys j ≡ later (bound n) (lot_at xs j)) (omega arith) (each (suc j) (omega arith))))
 
 -- the whole table was gone through
-pub answers_from_changed : (bound : ℕ → ℕ) (T U : List Lot) (v : Verdict) (i : ℕ) → length T ≤ i → U ≡ later_all bound 0 (take i T) ++ drop i T → all_fit (later_all bound 0 T) ≡ true → Changed v T U → Answers (raise bound T) T U v
-answers_from_changed bound T U v i done is fit changed = answered v changed
+pub answers_from_changed : {bound : ℕ → ℕ} {T U : List Lot} {i : ℕ} (v : Verdict) → RaisedUpTo bound T U i → length T ≤ i → length U ≡ length T → all_fit (later_all bound 0 T) ≡ true → Changed v T U → Answers (raise bound T) T U v
+answers_from_changed {bound} {T} {U} v r done same fit changed = answered v changed
   where
     whole : U ≡ later_all bound 0 T
-    whole = is ∙ ap₂ (λ xs ys. later_all bound 0 xs ++ ys) (take_all i T done) (drop_all i T done) ∙ append-nil (later_all bound 0 T)
+    whole = each_later bound 0 T U same (λ j h. rw zero-add (r.raised j (omega arith)))
 
     gives : raise bound T ≡ to U
     gives = ap (λ b. cond b (to (later_all bound 0 T)) dead) fit ∙ ap to (sym whole)

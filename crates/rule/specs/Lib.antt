@@ -1,3 +1,4 @@
+pub mod Verdicts
 pub mod Meanings
 pub mod Idle
 pub mod Both

@@ -2,8 +2,8 @@
 ghost use Rattle.rule.specs.Both.{both as one_then_other};
 ghost use Rattle.rule.specs.Laws.Sequence.{both_sound};
 
-use crate::copies::{copied, restore};
 use crate::{Rule, Verdict};
+use arrayvec::ArrayVec;
 use lots::{Lot, MAX_LOTS, Refusal};
 
 // Runs the first, and then the second on its table.
@@ -19,10 +19,9 @@ impl<X: Rule, Y: Rule> Rule for Both<X, Y> {
     ghost sound = { λ x. both_sound _ _ (X.Rule.sound x.first) (Y.Rule.sound x.second) };
 
     fn apply(&self, capacity: u16, lots: &mut [Lot]) -> Result<Verdict, Refusal> {
-        if lots.len() > MAX_LOTS {
+        let Ok(before) = ArrayVec::<Lot, MAX_LOTS>::try_from(&*lots) else {
             return Err(Refusal::Unlawful);
-        }
-        let before = copied(lots);
+        };
         let first = self.first.apply(capacity, lots)?;
         if let Verdict::Dead = first {
             return Ok(Verdict::Dead);
@@ -31,7 +30,7 @@ impl<X: Rule, Y: Rule> Rule for Both<X, Y> {
             Verdict::Still => Ok(first),
             Verdict::Moved => Ok(Verdict::Moved),
             Verdict::Dead => {
-                restore(lots, &before);
+                lots.copy_from_slice(&before);
                 Ok(Verdict::Dead)
             }
         }

@@ -2,23 +2,21 @@
 ghost use Rattle.std.specs.Prelude.{◌+◌};
 ghost use Rattle.rule.specs.Settled.{Settles};
 
-use crate::copies::{copied, restore};
 use crate::{Rule, Verdict};
-use lots::{Lot, Refusal, is_lawful};
+use arrayvec::ArrayVec;
+use lots::{Lot, MAX_LOTS, Refusal, Table};
 
 // Applies the rule until it is still or dead, and counts the applications. Dead puts back the windows from before.
 pub fn settle<R: Rule>(rule: &R, capacity: u16, lots: &mut [Lot]) -> Result<(Verdict, u32), Refusal>
     ensures { Settles (R.meaning rule.now) capacity lots.old lots.new result }
 {
-    if !is_lawful(capacity, lots) {
-        return Err(Refusal::Unlawful);
-    }
-    let before = copied(lots);
+    Table::new(capacity, lots)?;
+    let before = ArrayVec::<Lot, MAX_LOTS>::try_from(&*lots).unwrap();
     let mut moves: u32 = 0;
     loop {
-        match rule.apply(capacity, lots) {
-            Ok(Verdict::Moved) => moves += 1,
-            Ok(Verdict::Still) => {
+        match rule.apply(capacity, lots)? {
+            Verdict::Moved => moves += 1,
+            Verdict::Still => {
                 let verdict = if moves == 0 {
                     Verdict::Still
                 } else {
@@ -26,11 +24,10 @@ pub fn settle<R: Rule>(rule: &R, capacity: u16, lots: &mut [Lot]) -> Result<(Ver
                 };
                 return Ok((verdict, moves + 1));
             }
-            Ok(Verdict::Dead) => {
-                restore(lots, &before);
+            Verdict::Dead => {
+                lots.copy_from_slice(&before);
                 return Ok((Verdict::Dead, moves + 1));
             }
-            Err(_) => unreachable(),
         }
     }
 }

@@ -3,7 +3,7 @@ ghost use Rattle.rule.specs.Idle.{idle as gives_back};
 ghost use Rattle.rule.specs.Laws.Tables.{idle_sound};
 
 use crate::{Rule, Verdict};
-use lots::{Lot, Refusal, is_lawful};
+use lots::{Lot, Refusal, Table};
 
 #[derive(Clone, Copy, Debug)]
 pub struct Idle;
@@ -14,10 +14,7 @@ impl Rule for Idle {
     ghost sound = { λ x. idle_sound };
 
     fn apply(&self, capacity: u16, lots: &mut [Lot]) -> Result<Verdict, Refusal> {
-        if is_lawful(capacity, lots) {
-            Ok(Verdict::Still)
-        } else {
-            Err(Refusal::Unlawful)
-        }
+        Table::new(capacity, lots)?;
+        Ok(Verdict::Still)
     }
 }

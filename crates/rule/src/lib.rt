@@ -1,12 +1,14 @@
 // What a rule is: it narrows the windows of a table and loses no schedule.
 #![tactic(auto)]
 
+ghost use Rattle.std.specs.Prelude.{Some};
 ghost use Rattle.rule.specs.Meanings.{Meaning, Sound, Applied};
+ghost use Rattle.rule.specs.Verdicts.{shown_verdict};
 
 use lots::{Lot, Refusal};
+use std::fmt;
 
 mod both;
-mod copies;
 mod fixpoint;
 mod idle;
 mod starts;
@@ -27,6 +29,18 @@ pub enum Verdict {
     Moved,
     // The table has no schedule. It is as it was.
     Dead,
+}
+
+impl fmt::Display for Verdict {
+    ghost output = { λ verdict. Some (shown_verdict verdict) };
+
+    fn fmt<W: fmt::Write>(&self, f: &mut fmt::Formatter<W>) -> fmt::Result {
+        f.write_str(match self {
+            Verdict::Still => "still",
+            Verdict::Moved => "moved",
+            Verdict::Dead => "dead",
+        })
+    }
 }
 
 // A rule, by its meaning. It owes four facts, and then every pile, plan and search over it is right.

@@ -10,24 +10,25 @@ use lots::Lot;
 fn bound_of(bounds: &[u16], number: usize) -> u16
     ensures { result ≡ slice_index bounds.now number }
 {
-    if number < bounds.len() {
-        bounds[number]
-    } else {
-        0
-    }
+    bounds.get(number).copied().unwrap_or(0)
 }
 
 // Whether the run fits the window of a lot that starts at the bound or later.
 fn fits(lot: &Lot, bound: u16) -> bool
     ensures { result ≡ nat_le (earliest_end (later bound lot.now)) lot.now.lct }
 {
-    u32::from(bound.max(lot.est)) + u32::from(lot.p) <= u32::from(lot.lct)
+    let later = Lot {
+        est: bound.max(lot.est),
+        ..*lot
+    };
+    later.ect() <= u32::from(lot.lct)
 }
 
 // Whether every run fits its window then.
 fn every_run_fits(lots: &[Lot], bounds: &[u16]) -> bool
     ensures { result ≡ all_fit (later_all (λ j. slice_index bounds.now j) 0 lots.now) }
 {
+    // A chain of `all` was tried: the time-table on long windows took half as long again.
     for (number, lot) in lots.iter().enumerate() {
         if !fits(lot, bound_of(bounds, number)) {
             return false;
@@ -44,9 +45,8 @@ pub fn raise(lots: &mut [Lot], bounds: &[u16]) -> Verdict
         return Verdict::Dead;
     }
     let mut verdict = Verdict::Still;
-    for number in 0..lots.len() {
+    for (number, lot) in lots.iter_mut().enumerate() {
         let bound = bound_of(bounds, number);
-        let lot = &mut lots[number];
         if lot.est < bound {
             lot.est = bound;
             verdict = Verdict::Moved;

@@ -5,7 +5,7 @@ ghost use Rattle.rule.specs.Turned.{turn as turned_lot, InWeek, turned as turned
 ghost use Rattle.rule.specs.Laws.Mirror.{turned_sound};
 
 use crate::{Rule, Verdict};
-use lots::{HORIZON, Lot, Refusal, is_lawful};
+use lots::{HORIZON, Lot, Refusal, Table};
 
 #[derive(Clone, Copy, Debug)]
 pub struct Turned<X> {
@@ -19,8 +19,7 @@ fn turn_lot(lot: Lot) -> Lot
     Lot {
         est: HORIZON - lot.lct,
         lct: HORIZON - lot.est,
-        p: lot.p,
-        c: lot.c,
+        ..lot
     }
 }
 
@@ -40,9 +39,7 @@ impl<X: Rule> Rule for Turned<X> {
     ghost sound = { λ x. turned_sound _ (X.Rule.sound x.rule) };
 
     fn apply(&self, capacity: u16, lots: &mut [Lot]) -> Result<Verdict, Refusal> {
-        if !is_lawful(capacity, lots) {
-            return Err(Refusal::Unlawful);
-        }
+        Table::new(capacity, lots)?;
         turn(lots);
         let answer = self.rule.apply(capacity, lots);
         turn(lots);

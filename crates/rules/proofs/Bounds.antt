@@ -1,6 +1,5 @@
 -- The greatest bound over the lots is the greatest over their latest ends.
-use Rattle.std.proofs.Common.{◌≡◌, ℕ, zero, suc, ◌+◌, ◌-◌, ◌<◌, ◌≤◌, Bool, true, false, cond, not, ◌&&◌, eqb, ltb, leb, ◌⊎◌, List, [], ◌∷◌, map, length, get_or, take, sym, refl, ap, ◌∙◌, subst, inl, inr, add-zero, zero-add, arith}
-use native.Mathlib.Nat.{sub-zero}
+use Rattle.std.proofs.Common.{◌≡◌, ℕ, zero, suc, ◌+◌, ◌<◌, ◌≤◌, Bool, true, false, cond, not, ◌&&◌, eqb, ltb, leb, ◌⊎◌, List, [], ◌∷◌, map, length, get_or, sym, refl, ap, ◌∙◌, subst, inl, inr, add-zero, zero-add, arith}
 use Rattle.std.proofs.lemmas.Bool.{cases_eq, false≢true, and_parts, and_from, or_cases, or_left, or_right, eqb-true, eq-eqb, le-leb}
 use Rattle.lots.specs.Tables.{ect, lot_at}
 use Rattle.lots.specs.declared.Lot.{Lot}
@@ -106,7 +105,6 @@ module _ (C : ℕ) (T : List Lot) (i : ℕ) where
   greatest_by_ends ts same = omega (arith, ends_most ts, lots_most ts same (length T) (omega arith))
 
 -- so the bounds that the cuts put are those of the rule
-pub not_first_by_cuts : (C : ℕ) (T : List Lot) (cuts : List Cut) (len : ℕ) (bounds : List ℕ) → CutsOf T (take len cuts) → ((i : ℕ) → i < length T → get_or bounds i 0 ≡ greatest_end_bound C T i (cut_ends (take (len - 0) cuts))) → not_first C T ≡ raise (λ j. get_or bounds j 0) T
-not_first_by_cuts C T cuts len bounds is told =
-    raise_same (λ i. greatest_bound C T i (length T)) (λ j. get_or bounds j 0) T
-    (λ i h. sym (told i h ∙ ap (λ n. greatest_end_bound C T i (cut_ends (take n cuts))) (sub-zero len) ∙ greatest_by_ends C T i (cut_ends (take len cuts)) is.ends))
+pub not_first_by_cuts : (C : ℕ) (T : List Lot) (cs : List Cut) (bounds : List ℕ) → CutsOf T cs → ((i : ℕ) → i < length T → get_or bounds i 0 ≡ greatest_end_bound C T i (cut_ends cs)) → not_first C T ≡ raise (λ j. get_or bounds j 0) T
+not_first_by_cuts C T cs bounds is told =
+    raise_same (λ i. greatest_bound C T i (length T)) (λ j. get_or bounds j 0) T (λ i h. sym (told i h ∙ greatest_by_ends C T i (cut_ends cs) is.ends))

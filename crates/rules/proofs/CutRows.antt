@@ -6,10 +6,11 @@ use Rattle.std.proofs.lemmas.List.Edits.{length-insert}
 use Rattle.std.proofs.ByRecursion.{All-append, All-take, All-drop}
 use Rattle.std.proofs.lemmas.List.{take_all, map_more, get_or-take, length-take-le}
 use Rattle.std.proofs.lemmas.Bool.{both_ways}
+use Rattle.lots.specs.Limits.{max_lots}
 use Rattle.lots.specs.Tables.{lot_at}
 use Rattle.lots.specs.declared.Lot.{Lot}
 use Rattle.elastic.specs.Profile.{has}
-use Rattle.elastic.specs.Rows.{Ascending, Stored, Seated}
+use Rattle.elastic.specs.Rows.{Ascending, Put, Seated}
 use Rattle.elastic.specs.declared.row.Place.{Place}
 use Rattle.elastic.specs.declared.row.Place.TheVariants.{Placed, Present, Full}
 use Rattle.elastic.proofs.Counts.{has_push}
@@ -46,26 +47,30 @@ module _ (T : List Lot) (i : ℕ) (h : i < length T) (cs : List Cut) (g : SoFar 
         both_ways _ new (g.ends (lot_at T i).lct ∙ known);
   }
 
-  module _ (cells cs' cells' : List Cut) (up : Ascending nat_cmp_total end_of cs') where
-    each_more : (r : Place) → Stored next cs cells cs' cells' r → Seated nat_cmp_total end_of next cs r → AllByRecursion (Lowest T) cs'
-    each_more (Placed n) stored seated =
+  module _ (cs' : List Cut) (up : Ascending nat_cmp_total end_of cs') where
+    each_more : (r : Place) → Put max_lots next cs cs' r → Seated nat_cmp_total end_of next cs r → AllByRecursion (Lowest T) cs'
+    each_more (Placed n) put seated =
         let lacks = nowhere nat_cmp_total end_of cs (lot_at T i).lct n seated.0 seated.1 in
-        subst (AllByRecursion (Lowest T)) (sym stored.2)
+        subst (AllByRecursion (Lowest T)) (sym put.2)
         (All-append (Lowest T) (take n cs) _ (All-take (Lowest T) n cs g.each) (lowest_here (lacks_key end_of cs (lot_at T i).lct lacks), All-drop (Lowest T) n cs g.each))
-    each_more (Present n) stored seated = subst (AllByRecursion (Lowest T)) (sym stored.1) g.each
-    each_more Full stored seated = subst (AllByRecursion (Lowest T)) (sym stored.1) g.each
+    each_more (Present n) put seated = subst (AllByRecursion (Lowest T)) (sym put.1) g.each
+    each_more Full put seated = subst (AllByRecursion (Lowest T)) (sym put.1) g.each
 
-    few_more : (r : Place) → Stored next cs cells cs' cells' r → length cs' ≤ i + 1
-    few_more (Placed n) stored = omega (arith, ap length stored.2, length-insert cs n next stored.0, g.few)
-    few_more (Present n) stored = omega (arith, ap length stored.1, g.few)
-    few_more Full stored = omega (arith, ap length stored.1, g.few)
+    few_more : (r : Place) → Put max_lots next cs cs' r → length cs' ≤ i + 1
+    few_more (Placed n) put = omega (arith, ap length put.2, length-insert cs n next put.0, g.few)
+    few_more (Present n) put = omega (arith, ap length put.1, g.few)
+    few_more Full put = omega (arith, ap length put.1, g.few)
 
-    pub so_far_more : (r : Place) → (r ≡ Full → ⊥) → Stored next cs cells cs' cells' r → Seated nat_cmp_total end_of next cs r → SoFar T (i + 1) cs'
-    so_far_more r free stored seated = record {
+    -- fewer cuts than lots came, so there is room
+    not_full : length T ≤ max_lots → (r : Place) → Put max_lots next cs cs' r → r ≡ Full → ⊥
+    not_full few r put e = let full = subst (Put max_lots next cs cs') e put in omega (arith, full.0, g.few, few, h)
+
+    pub so_far_more : length T ≤ max_lots → (r : Place) → Put max_lots next cs cs' r → Seated nat_cmp_total end_of next cs r → SoFar T (i + 1) cs'
+    so_far_more few r put seated = record {
       rising = up;
-      ends = λ t. keys_put end_of next cs cells cs' cells' r free stored seated t ∙ ap (λ b. eqb t (lot_at T i).lct || b) (g.ends t) ∙ sym (ends_more t);
-      each = each_more r stored seated;
-      few = few_more r stored;
+      ends = λ t. keys_put end_of max_lots next cs cs' r (not_full few r put) put seated t ∙ ap (λ b. eqb t (lot_at T i).lct || b) (g.ends t) ∙ sym (ends_more t);
+      each = each_more r put seated;
+      few = few_more r put;
     }
 
 pub so_far_none : (T : List Lot) → SoFar T 0 []

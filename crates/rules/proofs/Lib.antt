@@ -1,5 +1,5 @@
 pub mod CutRows
-pub mod Leasts
+pub mod Chains
 pub mod Loads
 pub mod Raised
 pub mod Bounds

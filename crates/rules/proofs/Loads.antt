@@ -1,25 +1,33 @@
 -- The loads of the fixed parts, minute by minute, and what is read off them.
-use Rattle.std.proofs.Common.{◌≡◌, ℕ, zero, suc, ◌+◌, ◌-◌, ◌*◌, ◌<◌, ◌≤◌, Bool, true, false, cond, ◌&&◌, ltb, leb, List, [], ◌∷◌, ◌++◌, length, get_or, take, sym, ap, ◌∙◌, arith}
-use Rattle.std.specs.List.{AllByRecursion}
-use Rattle.std.proofs.lemmas.List.{take_more}
-use Rattle.std.proofs.lemmas.Bool.{and_from, and_left, and_right, le-leb, lt-leb, lt-ltb, le-ltb}
+use Rattle.std.proofs.Common.{◌≡◌, ℕ, zero, suc, ◌+◌, ◌-◌, ◌*◌, ◌<◌, ◌≤◌, Bool, true, false, cond, ◌&&◌, ltb, leb, List, [], ◌∷◌, length, get_or, take, Option, None, Some, MatchOption, Ok, inl, inr, refl, sym, ap, ◌∙◌, subst, arith}
+use Rattle.std.specs.Bool.{MatchBool}
+use Rattle.std.specs.List.{AllByRecursion, sum_by}
+use Rattle.std.proofs.ByRecursion.{All-get_or}
+use Rattle.std.proofs.lemmas.Bool.{cases_order, cond-true, cond-false, lt-ltb, le-ltb}
 use Rattle.std.proofs.lemmas.Bool.Decides.{nat_tests}
+use Rattle.std.proofs.lemmas.List.Recursion.{is_sum_by}
+use Rattle.std.proofs.lemmas.List.Sums.{sum_by_more, sum_by-take-le}
+use Rattle.lots.proofs.Tables.{lawful_under_most}
 use Rattle.lots.specs.Limits.{horizon, max_capacity, max_lots}
 use Rattle.lots.specs.Tables.{ect, lot_at, LawfulLot, Lawful}
 use Rattle.lots.specs.declared.Lot.{Lot}
-use Rattle.rule.specs.Meanings.{dead}
-use Rattle.rule.specs.Raised.{raise}
+use Rattle.lots.specs.declared.table.Table.{Table}
+use Rattle.rule.specs.Meanings.{Applied, dead}
+use Rattle.rule.specs.Raised.{raise, Answers}
+use Rattle.rule.specs.declared.Verdict.{Verdict}
+use Rattle.rule.specs.declared.Verdict.TheVariants.{Dead}
 use Rattle.rules.specs.TimeTable.{fixed, fixed_load, fixed_others, some_below, after_last, blocked_under, bound_of, time_table}
 use Rattle.rules.specs.Laws.FixedParts.{fixed_split}
-use Rattle.rules.specs.Laws.Searches.{some_same, after_last_none, after_last_same, after_last_here, after_last_before}
-use Rattle.rules.proofs.Raised.{raise_same}
+use Rattle.rules.specs.Laws.Searches.{some_none, some_here, after_last_none, after_last_same}
+use Rattle.rules.specs.declared.time_table.Loads.{Loads}
+use Rattle.rules.proofs.Raised.{raise_same, applied_from_answers}
 
-fixed_push : (T : List Lot) (x : Lot) (t : ℕ) → fixed_load (T ++ x ∷ []) t ≡ fixed_load T t + fixed x t
-fixed_push [] x t = omega arith
-fixed_push (y ∷ ys) x t = omega (arith, fixed_push ys x t)
+-- the load is a sum over the lots
+fixed_sum : (T : List Lot) (t : ℕ) → fixed_load T t ≡ sum_by (λ x. fixed x t) T
+fixed_sum T t = is_sum_by (λ xs. fixed_load xs t) (λ x. fixed x t) refl (λ x xs. refl) T
 
 pub fixed_more : (T : List Lot) (i t : ℕ) → i < length T → fixed_load (take (i + 1) T) t ≡ fixed_load (take i T) t + fixed (lot_at T i) t
-fixed_more T i t h = ap (λ xs. fixed_load xs t) (take_more T i _ h) ∙ fixed_push (take i T) (lot_at T i) t
+fixed_more T i t h = omega (arith, fixed_sum (take (i + 1) T) t, fixed_sum (take i T) t, sum_by_more (λ x. fixed x t) T i (lot_at [] 0) h)
 
 fixed_le : (x : Lot) (t : ℕ) → fixed x t ≤ x.c
 fixed_le x t = grind (arith, nat_tests)
@@ -28,64 +36,80 @@ fixed_few : (T : List Lot) (t : ℕ) → AllByRecursion (LawfulLot max_capacity)
 fixed_few [] t ok = omega arith
 fixed_few (x ∷ xs) t ok = omega (arith, fixed_le x t, ok.0.has_trays, fixed_few xs t ok.1)
 
-fixed_take : (i : ℕ) (T : List Lot) (t : ℕ) → fixed_load (take i T) t ≤ fixed_load T t
-fixed_take zero T t = omega arith
-fixed_take (suc i) [] t = omega arith
-fixed_take (suc i) (x ∷ xs) t = omega (arith, fixed_take i xs t)
+-- what is known of the lots of a table
+module _ (s : Table) where
+  lawful : Lawful max_capacity s.lots.now
+  lawful = lawful_under_most s.capacity s.lots.now s.lawful
 
--- a load is of few enough trays for its 16 bits
-module _ (T : List Lot) (ok : Lawful max_capacity T) (t : ℕ) where
-  pub loads_few : fixed_load T t ≤ max_capacity * max_lots
-  loads_few = omega (arith, fixed_few T t ok.each, ok.few_lots)
+  pub lots_few : length s.lots.now ≤ max_lots
+  lots_few = lawful.few_lots
 
-  pub loads_few_so_far : (i : ℕ) → fixed_load (take i T) t ≤ max_capacity * max_lots
-  loads_few_so_far i = omega (arith, fixed_take i T t, loads_few)
+  pub lot_lawful : (j : ℕ) → j < length s.lots.now → LawfulLot max_capacity (lot_at s.lots.now j)
+  lot_lawful j h = All-get_or _ _ _ _ h lawful.each
 
--- the walk down from n has come to m, and is at the minute before it
-module _ (f : ℕ → Bool) (n m : ℕ) (inv : after_last f n ≡ after_last f m) where
-  pub walk_ends : 0 < m → f (m - 1) ≡ true → m - 1 + 1 ≡ after_last f n
-  walk_ends some e =
-      let back : m ≡ m - 1 + 1 = omega arith in
-      sym (inv ∙ ap (after_last f) back ∙ after_last_here f (m - 1) e)
+  -- a load is of few enough trays for its 16 bits
+  loads_few : (t : ℕ) → fixed_load s.lots.now t ≤ max_capacity * max_lots
+  loads_few t = omega (arith, fixed_few s.lots.now t lawful.each, lots_few)
 
-  pub walk_on : 0 < m → f (m - 1) ≡ false → after_last f n ≡ after_last f (m - 1)
-  walk_on some e =
-      let back : m ≡ m - 1 + 1 = omega arith in
-      inv ∙ ap (after_last f) back ∙ after_last_before f (m - 1) e
+  pub loads_few_so_far : (i t : ℕ) → fixed_load (take i s.lots.now) t ≤ max_capacity * max_lots
+  loads_few_so_far i t = omega (arith, fixed_sum (take i s.lots.now) t, fixed_sum s.lots.now t, sum_by-take-le (λ x. fixed x t) s.lots.now i, loads_few t)
 
-  pub walk_none : ((t : ℕ) → t < m → f t ≡ false) → 0 ≡ after_last f n
-  walk_none none = sym (inv ∙ after_last_none f m none)
+  -- whether some load passes the capacity
+  abbrev pub passes : Bool
+  passes = some_below (λ t. ltb s.capacity (fixed_load s.lots.now t)) horizon
 
-module _ (loads : List ℕ) (C : ℕ) (x : Lot) (t : ℕ) where
-  pub not_blocked_before : t < x.est → blocked_under loads C x t ≡ false
-  not_blocked_before h = and_left (leb x.est t) (ltb C (x.c + get_or loads t 0 - fixed x t)) (lt-leb x.est t h)
+-- what is read off the loads of a table
+module _ (l : Loads) where
+  pub load_few : (t : ℕ) → t < horizon → get_or l.by_minute t 0 ≤ max_capacity * max_lots
+  load_few t h = omega (arith, l.loaded t h, loads_few l.table t)
 
-  module _ (held : ℕ) (is : held ≡ fixed x t) where
-    pub blocked_here : x.est ≤ t → C < x.c + get_or loads t 0 - held → blocked_under loads C x t ≡ true
-    blocked_here h over =
-        and_from (leb x.est t) (ltb C (x.c + get_or loads t 0 - fixed x t)) (le-leb x.est t h) (lt-ltb C (x.c + get_or loads t 0 - fixed x t) (omega arith))
+  pub passes_read : length l.by_minute ≡ horizon → (b : Bool) → MatchBool b ((t : ℕ) × (t < length l.by_minute) × (l.table.capacity < get_or l.by_minute t 0)) ((t : ℕ) → t < length l.by_minute → get_or l.by_minute t 0 ≤ l.table.capacity) → b ≡ passes l.table
+  passes_read minutes true found =
+      let t : ℕ = found.0 in
+      let h : t < horizon = omega (arith, found.1) in
+      sym (some_here _ _ t h (lt-ltb _ _ (omega (arith, found.2, l.loaded t h))))
+  passes_read minutes false none = sym (some_none _ _ (λ t h. le-ltb _ _ (omega (arith, none t (omega arith), l.loaded t h))))
 
-    pub free_here : x.c + get_or loads t 0 - held ≤ C → blocked_under loads C x t ≡ false
-    free_here under =
-        and_right (leb x.est t) (ltb C (x.c + get_or loads t 0 - fixed x t)) (le-ltb C (x.c + get_or loads t 0 - fixed x t) (omega arith))
+  -- the bound by the loads of all is the bound by those of the others
+  pub bound_read : (j : ℕ) → j < length l.table.lots.now → after_last (blocked_under l.by_minute l.table.capacity (lot_at l.table.lots.now j)) (ect (lot_at l.table.lots.now j)) ≡ bound_of l.table.capacity l.table.lots.now j
+  bound_read j h =
+      let x = lot_at l.table.lots.now j in
+      let ok = lot_lawful l.table j h in
+      after_last_same _ _ (ect x) (λ t going.
+      let others : x.c + get_or l.by_minute t 0 - fixed x t ≡ x.c + fixed_others j l.table.lots.now t = omega (arith, l.loaded t (omega (arith, ok.has_time, ok.in_week)), fixed_split j l.table.lots.now t h) in
+      ap (λ n. leb x.est t && ltb l.table.capacity n) others)
 
-module _ (C : ℕ) (T : List Lot) (loads : List ℕ) (loaded : (t : ℕ) → t < horizon → get_or loads t 0 ≡ fixed_load T t) where
-  pub bound_read : (j : ℕ) → j < length T → LawfulLot max_capacity (lot_at T j) → after_last (blocked_under loads C (lot_at T j)) (ect (lot_at T j)) ≡ bound_of C T j
-  bound_read j h ok = after_last_same _ _ (ect (lot_at T j)) (λ t going.
-      let others : (lot_at T j).c + get_or loads t 0 - fixed (lot_at T j) t ≡ (lot_at T j).c + fixed_others j T t = omega (arith, loaded t (omega (arith, ok.has_time, ok.in_week)), fixed_split j T t h) in
-      ap (λ n. leb (lot_at T j).est t && ltb C n) others)
+-- r is the last minute below n of which a test holds, if there is one
+abbrev pub IsLastBelow : (ℕ → Bool) → ℕ → Option ℕ → Type 0
+IsLastBelow f n r = MatchOption r ((t : ℕ) → t < n → f t ≡ false) (λ m. (m < n) × (f m ≡ true) × ((t : ℕ) → m < t → t < n → f t ≡ false))
 
-  pub passes_read : length loads ≡ horizon → some_below (λ t. ltb C (get_or loads t 0)) (length loads) ≡ some_below (λ t. ltb C (fixed_load T t)) horizon
-  passes_read minutes =
-      ap (some_below (λ t. ltb C (get_or loads t 0))) minutes
-      ∙ some_same (λ t. ltb C (get_or loads t 0)) (λ t. ltb C (fixed_load T t)) horizon (λ t h. ap (ltb C) (loaded t h))
+after_last_at : (f : ℕ → Bool) (n m : ℕ) → m < n → f m ≡ true → ((t : ℕ) → m < t → t < n → f t ≡ false) → m + 1 ≡ after_last f n
+unfolding after_last
+after_last_at f zero m h here after = absurd (omega arith)
+after_last_at f (suc n) m h here after = elim (cases_order m n) [
+  | inl same ↦ omega (arith, cond-true (f n) (suc n) (after_last f n) (subst (λ k. f k ≡ true) same here))
+  | inr (inl less) ↦ omega (arith, cond-false (f n) (suc n) (after_last f n) (after n less (omega arith)), after_last_at f n m less here (λ t l k. after t l (omega arith)))
+  | inr (inr more) ↦ absurd (omega arith)
+]
 
-  module _ (b : Bool) (minutes : length loads ≡ horizon) (told : b ≡ some_below (λ t. ltb C (get_or loads t 0)) (length loads)) where
-    choice : time_table C T ≡ cond b dead (raise (bound_of C T) T)
-    choice = ap (λ d. cond d dead (raise (bound_of C T) T)) (sym (told ∙ passes_read minutes))
+pub after_last_found : (f : ℕ → Bool) (n : ℕ) (r : Option ℕ) (bound : ℕ) → IsLastBelow f n r → MatchOption r (bound ≡ 0) (λ m. bound ≡ m + 1) → bound ≡ after_last f n
+after_last_found f n None bound none is = is ∙ sym (after_last_none f n none)
+after_last_found f n (Some m) bound last is = is ∙ after_last_at f n m last.0 last.1 last.2
 
-    pub time_table_dead : b ≡ true → time_table C T ≡ dead
-    time_table_dead e = choice ∙ ap (λ d. cond d dead (raise (bound_of C T) T)) e
+-- the rule at the capacity C and the lots T: the loads are of the table s, which is the table t of these
+module _ (C : ℕ) (T : List Lot) (s t : Table) (same : s ≡ t) (is : (t.capacity ≡ C) × (t.lots.now ≡ T)) where
+  here : (P : ℕ → List Lot → Type 0) → P s.capacity s.lots.now → P C T
+  here P h = subst (λ D. P D T) (ap (λ (u : Table). u.capacity) same ∙ is.0) (subst (P s.capacity) (ap (λ (u : Table). u.lots.now) same ∙ is.1) h)
 
-    pub time_table_raises : b ≡ false → (bound : ℕ → ℕ) → ((j : ℕ) → j < length T → bound j ≡ bound_of C T j) → time_table C T ≡ raise bound T
-    time_table_raises e bound same = choice ∙ ap (λ d. cond d dead (raise (bound_of C T) T)) e ∙ sym (raise_same bound (bound_of C T) T same)
+  lawful_here : Lawful C T
+  lawful_here = here Lawful s.lawful
+
+  choice : (b : Bool) → b ≡ passes s → time_table s.capacity s.lots.now ≡ cond b dead (raise (bound_of s.capacity s.lots.now) s.lots.now)
+  choice b e = ap (λ d. cond d dead (raise (bound_of s.capacity s.lots.now) s.lots.now)) (sym e)
+
+  pub dead_applied : true ≡ passes s → Applied time_table C T T (Ok Dead)
+  dead_applied e = (lawful_here, here (λ D U. time_table D U ≡ dead) (choice true e), refl)
+
+  pub raise_applied : false ≡ passes s → (bound : ℕ → ℕ) → ((j : ℕ) → j < length s.lots.now → bound j ≡ bound_of s.capacity s.lots.now j) → (U : List Lot) (v : Verdict) → Answers (raise bound T) T U v → Applied time_table C T U (Ok v)
+  raise_applied e bound bounds U v =
+      applied_from_answers time_table C T U bound v lawful_here (here (λ D U. time_table D U ≡ raise bound U) (choice false e ∙ sym (raise_same bound (bound_of s.capacity s.lots.now) s.lots.now bounds)))

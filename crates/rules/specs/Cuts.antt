@@ -1,5 +1,5 @@
 -- The distinct latest ends of a table.
-use Rattle.std.specs.Prelude.{◌≡◌, ℕ, ◌<◌, List, map, length, take, ◌≢◌, slice_index_or}
+use Rattle.std.specs.Prelude.{◌≡◌, ℕ, ◌<◌, List, map, length, ◌≢◌, slice_index_or}
 use Rattle.std.specs.Cmp.{nat_cmp_total}
 use Rattle.std.specs.List.{AllByRecursion}
 use Rattle.lots.specs.Tables.{lot_at}
@@ -7,7 +7,6 @@ use Rattle.lots.specs.declared.Lot.{Lot}
 use Rattle.elastic.specs.Profile.{has}
 use Rattle.elastic.specs.Rows.{Ascending}
 use Rattle.rules.specs.declared.cuts.Cut.{Cut}
-use Rattle.rules.specs.declared.cuts.Cuts.{Cuts}
 
 abbrev pub ends_of : List Lot → List ℕ
 ends_of T = map (λ x. x.lct) T
@@ -26,9 +25,6 @@ pub record CutsOf (T : List Lot) (cs : List Cut) : Type 0 where
   pub rising : Ascending nat_cmp_total (λ x. x.lct) cs
   pub ends : (t : ℕ) → has t (cut_ends cs) ≡ has t (ends_of T)
   pub each : AllByRecursion (Lowest T) cs
-
-abbrev pub cuts_in : Cuts → List Cut
-cuts_in g = take g.len g.cuts
 
 abbrev pub cut_at : List Cut → ℕ → Cut
 cut_at cs i = slice_index_or cs i (record { lct = 0; lot = 0 })

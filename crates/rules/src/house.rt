@@ -45,33 +45,29 @@ impl Rule for House {
 mod tests {
     use super::*;
 
-    const fn lot(est: u16, lct: u16, p: u16, c: u16) -> Lot {
-        Lot { est, lct, p, c }
-    }
-
     #[test]
     fn the_pile_moves_both_ends(rt: HostRuntime) {
         let mut lots = [
-            lot(254, 260, 4, 3),
-            lot(259, 261, 1, 2),
-            lot(259, 260, 1, 3),
+            Lot::new(254, 260, 4, 3),
+            Lot::new(259, 261, 1, 2),
+            Lot::new(259, 260, 1, 3),
         ];
         assert_eq!(rt; House.apply(3, &mut lots), Ok(Verdict::Moved));
         assert_eq!(rt;
             lots,
             [
-                lot(254, 259, 4, 3),
-                lot(260, 261, 1, 2),
-                lot(259, 260, 1, 3),
+                Lot::new(254, 259, 4, 3),
+                Lot::new(260, 261, 1, 2),
+                Lot::new(259, 260, 1, 3),
             ]
         );
     }
 
     #[test]
     fn a_dead_pile_leaves_the_table(rt: HostRuntime) {
-        let mut lots = [lot(4, 6, 2, 2), lot(0, 6, 5, 1)];
+        let mut lots = [Lot::new(4, 6, 2, 2), Lot::new(0, 6, 5, 1)];
         assert_eq!(rt; House.apply(2, &mut lots), Ok(Verdict::Dead));
         assert_eq!(rt; House.apply(1, &mut lots), Err(Refusal::Unlawful));
-        assert_eq!(rt; lots, [lot(4, 6, 2, 2), lot(0, 6, 5, 1)]);
+        assert_eq!(rt; lots, [Lot::new(4, 6, 2, 2), Lot::new(0, 6, 5, 1)]);
     }
 }

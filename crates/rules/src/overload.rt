@@ -1,45 +1,34 @@
 // Dead where some lots that must all be out by a minute are overfull.
-ghost use Rattle.std.specs.Prelude.{◌≡◌, ◌≤◌, length};
-ghost use Rattle.lots.specs.Limits.{max_lots};
-ghost use Rattle.lots.specs.Tables.{Lawful};
-ghost use Rattle.rules.specs.Chosen.{held};
+ghost use Rattle.std.specs.Prelude.{◌≡◌};
+ghost use Rattle.rules.specs.Chosen.{overfull};
 ghost use Rattle.rules.specs.Cuts.{cut_ends};
 ghost use Rattle.rules.specs.Overload.{due, some_overfull as overfull_at_some, overload as dead_if_overfull};
 ghost use Rattle.rules.specs.Laws.OverloadSound.{overload_sound};
 
-use crate::chosen::Chosen;
-use crate::cuts::{Cut, Cuts};
-use lots::{Lot, Refusal, is_lawful};
+use crate::chosen::{chosen, is_overfull};
+use crate::cuts::{Cut, cuts_of};
+use lots::{Lot, Refusal, Table};
 use rule::{Rule, Verdict};
 
 #[derive(Clone, Copy, Debug)]
 pub struct Overload;
 
-// The lots that must be out by a minute.
-fn due_by(lots: &[Lot], minute: u16) -> Chosen
-    requires { length lots.now ≤ max_lots }
-    ensures { (held result ≡ due minute lots.now) × (result.len ≤ max_lots) }
+// Whether the lots that must be out by a minute are overfull.
+fn overfull_by(table: Table<'_>, minute: u16) -> bool
+    ensures { result ≡ overfull table.entry.capacity (due minute table.entry.lots.now) }
 {
-    let mut due = Chosen::none();
-    for lot in lots {
-        if lot.lct <= minute {
-            due.push(*lot);
-        }
-    }
-    due
+    let due = chosen(table, |_, lot| lot.lct <= minute);
+    is_overfull(Table {
+        capacity: table.capacity,
+        lots: due.as_slice(),
+    })
 }
 
-// Whether, for some of the cuts, the lots that must be out by its latest end are overfull.
-fn some_overfull(capacity: u16, lots: &[Lot], cuts: &[Cut]) -> bool
-    requires { Lawful capacity lots.now }
-    ensures { result ≡ overfull_at_some capacity lots.now (cut_ends cuts.now) }
+// Whether that holds of the latest end of some cut.
+fn some_overfull(table: Table<'_>, cuts: &[Cut]) -> bool
+    ensures { result ≡ overfull_at_some table.entry.capacity table.entry.lots.now (cut_ends cuts.now) }
 {
-    for cut in cuts {
-        if due_by(lots, cut.lct).is_overfull(capacity) {
-            return true;
-        }
-    }
-    false
+    cuts.iter().any(|cut| overfull_by(table, cut.lct))
 }
 
 impl Rule for Overload {
@@ -48,11 +37,9 @@ impl Rule for Overload {
     ghost sound = { λ x. overload_sound };
 
     fn apply(&self, capacity: u16, lots: &mut [Lot]) -> Result<Verdict, Refusal> {
-        if !is_lawful(capacity, lots) {
-            return Err(Refusal::Unlawful);
-        }
-        let cuts = Cuts::of(lots);
-        if some_overfull(capacity, lots, &cuts.cuts[0..cuts.len]) {
+        let table = Table::new(capacity, lots)?;
+        let cuts = cuts_of(table);
+        if some_overfull(table, cuts.as_slice()) {
             Ok(Verdict::Dead)
         } else {
             Ok(Verdict::Still)
@@ -64,25 +51,32 @@ impl Rule for Overload {
 mod tests {
     use super::*;
 
-    const fn lot(est: u16, lct: u16, p: u16, c: u16) -> Lot {
-        Lot { est, lct, p, c }
-    }
-
     #[test]
     fn too_much_by_a_latest_end_is_dead(rt: HostRuntime) {
-        let mut lots = [lot(4, 6, 2, 2), lot(0, 6, 5, 1)];
+        let mut lots = [Lot::new(4, 6, 2, 2), Lot::new(0, 6, 5, 1)];
         assert_eq!(rt; Overload.apply(2, &mut lots), Ok(Verdict::Dead));
-        assert_eq!(rt; lots, [lot(4, 6, 2, 2), lot(0, 6, 5, 1)]);
+        assert_eq!(rt; lots, [Lot::new(4, 6, 2, 2), Lot::new(0, 6, 5, 1)]);
         lots[1].p = 4;
         assert_eq!(rt; Overload.apply(2, &mut lots), Ok(Verdict::Still));
-        assert_eq!(rt; lots, [lot(4, 6, 2, 2), lot(0, 6, 4, 1)]);
+        assert_eq!(rt; lots, [Lot::new(4, 6, 2, 2), Lot::new(0, 6, 4, 1)]);
     }
 
     #[test]
     fn what_is_due_later_does_not_count(rt: HostRuntime) {
-        let mut lots = [lot(0, 1, 1, 2), lot(0, 3, 3, 1), lot(1, 3, 1, 1)];
+        let mut lots = [
+            Lot::new(0, 1, 1, 2),
+            Lot::new(0, 3, 3, 1),
+            Lot::new(1, 3, 1, 1),
+        ];
         assert_eq!(rt; Overload.apply(2, &mut lots), Ok(Verdict::Still));
         assert_eq!(rt; Overload.apply(1, &mut lots), Err(Refusal::Unlawful));
-        assert_eq!(rt; lots, [lot(0, 1, 1, 2), lot(0, 3, 3, 1), lot(1, 3, 1, 1)]);
+        assert_eq!(rt;
+            lots,
+            [
+                Lot::new(0, 1, 1, 2),
+                Lot::new(0, 3, 3, 1),
+                Lot::new(1, 3, 1, 1)
+            ]
+        );
     }
 }

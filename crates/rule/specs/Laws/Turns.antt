@@ -1,7 +1,7 @@
 -- A table read from the other end of the week, and back.
-use Rattle.std.specs.Prelude.{◌≡◌, ℕ, ◌-◌, ◌<◌, ◌≤◌, List, [], ◌∷◌, ◌++◌, map, length, get_or, take, drop, slice_index_or, refl}
-use Rattle.std.proofs.Common.{sym, ap, ap₂, subst, ◌∙◌, arith}
-use Rattle.std.proofs.lemmas.List.{length-map, length-take-le, get_or-append_right, get_or-drop}
+use Rattle.std.specs.Prelude.{◌≡◌, ℕ, ◌≤◌, List, [], ◌∷◌, map, refl}
+use Rattle.std.proofs.Common.{sym, ap₂, subst, arith}
+use Rattle.std.proofs.lemmas.List.{length-map}
 use Rattle.std.proofs.ByRecursion.{All-map, All-weaker}
 use Rattle.std.specs.List.{AllZip, AllByRecursion}
 use Rattle.lots.specs.Tables.{LawfulLot, Lawful}
@@ -10,14 +10,6 @@ use Rattle.lots.specs.declared.Lot.{Lot}
 use Rattle.rule.specs.Laws.Tables.{lot_path}
 use Rattle.lots.specs.Limits.{max_lots}
 use Rattle.rule.specs.Turned.{turn, InWeek}
-
--- the loop of `turn` has not reached i yet
-pub not_yet : (f : Lot → Lot) (xs ys : List Lot) (i : ℕ) (d : Lot) → i < length xs → ys ≡ map f (take i xs) ++ drop i xs → slice_index_or ys i d ≡ slice_index_or xs i d
-not_yet f xs ys i d h e =
-    ap (λ zs. get_or zs i d) e
-    ∙ get_or-append_right (map f (take i xs)) (drop i xs) i i d (length-map (take i xs) f ∙ length-take-le i xs (omega arith)) (omega arith)
-    ∙ get_or-drop i xs (i - i) d
-    ∙ ap (λ n. get_or xs n d) (omega arith)
 
 pub turn_lot_twice : (x : Lot) → InWeek x → turn (turn x) ≡ x
 turn_lot_twice x h = lot_path _ _ (omega arith) (omega arith) refl refl

@@ -1,8 +1,7 @@
 -- Overload finds no schedule where it is dead.
-use Rattle.std.specs.Prelude.{◌≡◌, ℕ, ◌+◌, ◌-◌, ◌<◌, Bool, true, false, cond, ◌||◌, List, [], ◌∷◌, length, take, drop, ◌==◌, nat_le, refl}
+use Rattle.std.specs.Prelude.{◌≡◌, ℕ, Bool, true, false, cond, ◌||◌, List, [], ◌∷◌, ◌==◌, nat_le, refl}
 use Rattle.std.proofs.Common.{inl, inr, sym, ap, subst, ◌∙◌, arith}
-use Rattle.std.proofs.Math.Nat.{sub-zero}
-use Rattle.std.proofs.lemmas.List.{at_drop_more}
+use Rattle.std.specs.List.{list_any}
 use Rattle.std.proofs.lemmas.Bool.{ltb-true, or_cases, or_left, or_right, eqb-true, eq-eqb, false≢true}
 use Rattle.std.proofs.lemmas.Bool.Decides.{same_from_decides}
 use Rattle.lots.specs.declared.Lot.{Lot}
@@ -11,7 +10,7 @@ use Rattle.elastic.proofs.Soundness.{overflow_of_schedulable}
 use Rattle.rule.specs.Meanings.{Narrower, SameLaw, Keeps, Hopeless, Sound, Gives, Dies, dead, to}
 use Rattle.rule.specs.Laws.Tables.{same_work_refl, narrower_refl}
 use Rattle.rules.specs.Chosen.{chosen, overfull}
-use Rattle.rules.specs.Cuts.{ends_of, cut_ends, cut_at, CutsOf}
+use Rattle.rules.specs.Cuts.{ends_of, cut_ends, CutsOf}
 use Rattle.rules.specs.Overload.{due, some_overfull, overload}
 use Rattle.rules.specs.declared.cuts.Cut.{Cut}
 use Rattle.rules.specs.Laws.ChosenLots.{chosen_schedule}
@@ -65,22 +64,11 @@ module _ (C : ℕ) (T : List Lot) where
       same_from_decides (some_overfull C T ts) (some_overfull C T us) (λ e. e, λ e. e)
       (some_moved us ts (λ t h. same t ∙ h), some_moved ts us (λ t h. sym (same t) ∙ h))
 
-  -- the loop over the cuts, one cut more
-  module _ (cs : List Cut) (i : ℕ) (h : i < length cs) (b : Bool) (Ω : List Lot) (is : Ω ≡ due (cut_at cs i).lct T) (told : b ≡ overfull C Ω) where
-    some_next : some_overfull C T (cut_ends (drop i cs)) ≡ (b || some_overfull C T (cut_ends (drop (i + 1) cs)))
-    some_next =
-        at_drop_more (λ xs. some_overfull C T (cut_ends xs)) cs i _ h
-        ∙ ap (λ d. d || some_overfull C T (cut_ends (drop (i + 1) cs))) (sym (told ∙ ap (overfull C) is))
-
-    pub some_found : b ≡ true → some_overfull C T (cut_ends (drop i cs)) ≡ true
-    some_found full = some_next ∙ ap (λ d. d || some_overfull C T (cut_ends (drop (i + 1) cs))) full
-
-    pub some_on : b ≡ false → some_overfull C T (cut_ends (drop (i + 1) cs)) ≡ some_overfull C T (cut_ends (drop i cs))
-    some_on other = sym (some_next ∙ ap (λ d. d || some_overfull C T (cut_ends (drop (i + 1) cs))) other)
+  -- the search through the cuts
+  pub any_overfull : (cs : List Cut) → list_any (λ (x : Cut). overfull C (due x.lct T)) cs ≡ some_overfull C T (cut_ends cs)
+  any_overfull [] = refl
+  any_overfull (x ∷ xs) = ap (λ b. overfull C (due x.lct T) || b) (any_overfull xs)
 
 -- the cuts tell as much as the lots
-pub overload_by_cuts : (C : ℕ) (T : List Lot) (cuts : List Cut) (len : ℕ) → CutsOf T (take len cuts) → (b d : Bool) → b ≡ some_overfull C T (cut_ends (take (len - 0) cuts)) → b ≡ d → overload C T ≡ cond d dead (to T)
-overload_by_cuts C T cuts len is b d told e =
-    let part = ap (λ n. some_overfull C T (cut_ends (take n cuts))) (sub-zero len) in
-    let same = some_same C T (cut_ends (take len cuts)) (ends_of T) is.ends in
-    ap (λ q. cond q dead (to T)) (sym same ∙ sym part ∙ sym told ∙ e)
+pub overload_by_cuts : (C : ℕ) (T : List Lot) (cs : List Cut) → CutsOf T cs → (b d : Bool) → b ≡ some_overfull C T (cut_ends cs) → b ≡ d → overload C T ≡ cond d dead (to T)
+overload_by_cuts C T cs is b d told e = ap (λ q. cond q dead (to T)) (sym (some_same C T (cut_ends cs) (ends_of T) is.ends) ∙ sym told ∙ e)

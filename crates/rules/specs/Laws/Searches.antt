@@ -1,7 +1,7 @@
 -- Tests of the minutes below a number.
-use Rattle.std.specs.Prelude.{◌≡◌, ℕ, zero, suc, ◌+◌, ◌<◌, ◌≤◌, Bool, true, false, cond, ◌||◌, refl}
-use Rattle.std.proofs.Common.{inl, inr, sym, ap, ap₂, subst, ◌∙◌, add-one, arith}
-use Rattle.std.proofs.lemmas.Bool.{cases_order, or_from, or_left, or_right, cond_both, cond-true, cond-false}
+use Rattle.std.specs.Prelude.{◌≡◌, ℕ, zero, suc, ◌<◌, ◌≤◌, Bool, true, false, cond, ◌||◌, refl}
+use Rattle.std.proofs.Common.{inl, inr, ap₂, subst, ◌∙◌, arith}
+use Rattle.std.proofs.lemmas.Bool.{cases_order, or_from, or_left, or_right, cond_both, cond-false}
 use Rattle.rules.specs.TimeTable.{some_below, after_last}
 
 pub some_none : (f : ℕ → Bool) (n : ℕ) → ((t : ℕ) → t < n → f t ≡ false) → some_below f n ≡ false
@@ -37,11 +37,3 @@ pub after_last_same : (f g : ℕ → Bool) (n : ℕ) → ((t : ℕ) → t < n �
 unfolding after_last
 after_last_same f g zero h = refl
 after_last_same f g (suc n) h = ap₂ (λ b m. cond b (suc n) m) (h n (omega arith)) (after_last_same f g n (λ t k. h t (omega arith)))
-
-pub after_last_here : (f : ℕ → Bool) (n : ℕ) → f n ≡ true → after_last f (n + 1) ≡ n + 1
-unfolding after_last
-after_last_here f n e = ap (after_last f) (add-one n) ∙ cond-true (f n) (suc n) (after_last f n) e ∙ sym (add-one n)
-
-pub after_last_before : (f : ℕ → Bool) (n : ℕ) → f n ≡ false → after_last f (n + 1) ≡ after_last f n
-unfolding after_last
-after_last_before f n e = ap (after_last f) (add-one n) ∙ cond-false (f n) (suc n) (after_last f n) e

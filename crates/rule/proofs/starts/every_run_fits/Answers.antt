@@ -1,17 +1,19 @@
 use Rattle.std.proofs.Common.{get_or, sym, ◌∙◌}
 use Rattle.std.proofs.lemmas.List.{at_drop_all}
 use Rattle.rule.specs.Raised.{later_all, all_fit}
-use Rattle.rule.proofs.Raises.{fit_on, fit_ends}
+use Rattle.rule.proofs.Raises.{fit_more}
 use Rattle.rule.proofs.starts.every_run_fits.Goals as goal
 
 pub loop-number-preserved : goal.loop-number-preserved
 loop-number-preserved c =
-    fit_on (λ j. get_or c.args.bounds.now j 0) _ _ c.loop-number-test.true _ _ c.bound_of.ensures c.fits.ensures c.if-not-fits.false
+    let held = rw c.bound_of.ensures at (sym c.fits.ensures ∙ c.if-not-fits.false) in
+    sym (rw held at (fit_more (λ j. get_or c.args.bounds.now j 0) c.args.lots.now c.loop-number.number c.loop-number-test.true))
     ∙ c.loop-number.invariant
 
 pub returns-then-not-fits : goal.returns-then-not-fits
 returns-then-not-fits c =
-    sym (fit_ends (λ j. get_or c.args.bounds.now j 0) _ _ c.loop-number-test.true _ _ c.bound_of.ensures c.fits.ensures c.if-not-fits.true)
+    let failed = rw c.bound_of.ensures at (sym c.fits.ensures ∙ c.if-not-fits.true) in
+    sym (rw failed at (fit_more (λ j. get_or c.args.bounds.now j 0) c.args.lots.now c.loop-number.number c.loop-number-test.true))
     ∙ c.loop-number.invariant
 
 pub returns : goal.returns

@@ -7,4 +7,4 @@ use Rattle.rules.proofs.not_first.bounds_of.Given as goal
 abbrev pub invariant-loop-number : goal.invariant-loop-number
 invariant-loop-number l =
     (length l.bounds ≡ max_lots)
-    × ((k : ℕ) → k < l.number → get_or l.bounds k 0 ≡ greatest_end_bound l.capacity l.lots k (cut_ends l.cuts))
+    × ((k : ℕ) → k < l.number → get_or l.bounds k 0 ≡ greatest_end_bound l.table.capacity l.table.lots.now k (cut_ends l.cuts))

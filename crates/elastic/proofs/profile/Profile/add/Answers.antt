@@ -9,7 +9,6 @@ enter-requires c =
     let few = few_from_profile _ _ c.requires.profile.2 in
     record {
       free = omega (arith, few.0, c.requires.profile.1);
-      rising = c.requires.profile.2.rising;
       small = few_small _ _ few (omega (arith, c.requires.profile.1));
       small_change = subst (Small max_capacity) (sym c.at_est.ensures) (small_at_est _ c.requires.lawful);
     }
@@ -17,10 +16,9 @@ enter-requires c =
 pub enter-requires-2 : goal.enter-requires-2
 enter-requires-2 c =
     let first = subst (Small max_capacity) (sym c.at_est.ensures) (small_at_est _ c.requires.lawful) in
-    let few = few_more _ _ _ _ (few_from_profile _ _ c.requires.profile.2) first c.enter.ensures.entered in
+    let few = few_more _ _ _ _ (few_from_profile _ _ c.requires.profile.2) first c.enter.ensures in
     record {
       free = omega (arith, few.0, c.requires.profile.1);
-      rising = c.enter.ensures.entered.rising;
       small = few_small _ _ few (omega (arith, c.requires.profile.1));
       small_change = subst (Small max_capacity) (sym c.at_ect.ensures) (small_at_ect _ c.requires.lawful);
     }
@@ -29,20 +27,16 @@ pub enter-requires-3 : goal.enter-requires-3
 enter-requires-3 c =
     let first = subst (Small max_capacity) (sym c.at_est.ensures) (small_at_est _ c.requires.lawful) in
     let second = subst (Small max_capacity) (sym c.at_ect.ensures) (small_at_ect _ c.requires.lawful) in
-    let few = few_more _ _ _ _ (few_more _ _ _ _ (few_from_profile _ _ c.requires.profile.2) first c.enter.ensures.entered) second c.enter-2.ensures.entered in
+    let few = few_more _ _ _ _ (few_more _ _ _ _ (few_from_profile _ _ c.requires.profile.2) first c.enter.ensures) second c.enter-2.ensures in
     record {
       free = omega (arith, few.0, c.requires.profile.1);
-      rising = c.enter-2.ensures.entered.rising;
       small = few_small _ _ few (omega (arith, c.requires.profile.1));
       small_change = subst (Small max_capacity) (sym c.at_lct.ensures) (small_at_lct _ c.requires.lawful);
     }
 
 pub returns : goal.returns
-returns c = record {
-  count = c.enter-3.ensures.count;
-  profile = λ Ω p.
-      profiles_push _ _ _ _ Ω _ p c.requires.lawful
-      (entered_as _ _ _ _ c.at_est.ensures c.enter.ensures.entered)
-      (entered_as _ _ _ _ c.at_ect.ensures c.enter-2.ensures.entered)
-      (entered_as _ _ _ _ c.at_lct.ensures c.enter-3.ensures.entered);
-}
+returns c Ω p =
+    profiles_push _ _ _ _ Ω _ p c.requires.lawful
+    (entered_as _ _ _ _ c.at_est.ensures c.enter.ensures)
+    (entered_as _ _ _ _ c.at_ect.ensures c.enter-2.ensures)
+    (entered_as _ _ _ _ c.at_lct.ensures c.enter-3.ensures)

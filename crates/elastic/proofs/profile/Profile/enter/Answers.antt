@@ -1,30 +1,25 @@
-use Rattle.std.proofs.Common.{arith}
-use Rattle.elastic.proofs.Points.{entered_by_put, entered_by_alter, small_there, count_altered}
+use Rattle.std.proofs.Common.{◌<◌, length, sym, subst}
+use Rattle.std.specs.Cmp.{nat_cmp_total}
+use Rattle.elastic.specs.Points.{max_points}
+use Rattle.elastic.proofs.Points.{entered_by_put, entered_by_alter, small_there}
 use Rattle.elastic.proofs.profile.Profile.enter.Goals as goal
 
 pub alter-requires : goal.alter-requires
 alter-requires c =
-    let stored = c.in-Present.ensures.stored in
+    let put = c.in-Present.ensures.put in
     record {
-      within = omega (arith, stored.0);
-      small = small_there _ _ _ _ c.args.change _ stored _ c.requires.small;
+      within = subst (λ ps. c.in-Present.i < length ps) (sym put.1) put.0;
+      few = c.in-Present.ensures.few;
+      small = small_there max_points _ _ c.args.change _ put _ c.requires.small;
       small_change = c.requires.small_change;
     }
-
-pub unreachable-requires : goal.unreachable-requires
-unreachable-requires c =
-    let told = c.in-Full.ensures in
-    omega (arith, told.stored.0, told.cells)
 
 pub returns-in-Placed : goal.returns-in-Placed
 returns-in-Placed c =
     let told = c.in-Placed.ensures in
-    record { count = told.count; entered = entered_by_put _ _ _ _ c.args.change _ told.stored told.seated told.rising }
+    entered_by_put max_points _ _ c.args.change _ told.put (told.seated nat_cmp_total) (told.ascends nat_cmp_total).1
 
 pub returns-in-Present : goal.returns-in-Present
 returns-in-Present c =
     let told = c.in-Present.ensures in
-    record {
-      count = count_altered _ _ _ _ _ _ told.count c.alter.ensures.0 c.alter.ensures.1;
-      entered = entered_by_alter _ _ _ _ c.args.change _ told.stored told.seated c.requires.rising _ _ c.alter.ensures.0 c.alter.ensures.1;
-    }
+    entered_by_alter max_points _ _ c.args.change _ told.put (told.seated nat_cmp_total) (told.ascends nat_cmp_total).0 _ c.alter.ensures

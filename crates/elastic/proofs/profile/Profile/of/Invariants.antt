@@ -1,6 +1,6 @@
-use Rattle.std.proofs.Common.{◌≡◌, length, take}
-use Rattle.elastic.specs.Points.{used, Profiles}
+use Rattle.std.proofs.Common.{take}
+use Rattle.elastic.specs.Points.{Profiles}
 use Rattle.elastic.proofs.profile.Profile.of.Given as goal
 
 abbrev pub invariant-loop-lot : goal.invariant-loop-lot
-invariant-loop-lot l = (l.profile.len ≡ length (used l.profile)) × Profiles (used l.profile) (take l.lot-index l.lots)
+invariant-loop-lot l = Profiles l.profile.points (take l.lot-index l.table.lots.now)

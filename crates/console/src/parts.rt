@@ -1,0 +1,59 @@
+// A text that is cut at a mark, and read part by part: the words of a line, or the numbers of a cell.
+ghost use Rattle.std.specs.Prelude.{◌≡◌};
+ghost use Rattle.std.specs.Iterator.{YieldsFirstRef, item_count};
+ghost use Rattle.console.specs.Syntax.{pieces, space, comma};
+
+use std::marker::Model;
+use std::str::Split;
+
+// The parts that are still to be read.
+#[derive(Drop)]
+pub struct Parts<'a> {
+    left: Split<'a, char>,
+}
+
+impl<'a> Model for Parts<'a> {
+    ghost use Rattle.std.specs.Prelude.{ℕ, List, ◌<◌};
+    ghost use Rattle.std.specs.Str.Iter.{split_pattern};
+    ghost use Rattle.console.specs.Syntax.{to_come};
+
+    ghost Value = { List (List ℕ) };
+
+    ghost view = { λ s. to_come s.left };
+
+    ghost invariant = { λ s. split_pattern s.left < 128 };
+}
+
+impl<'a> Parts<'a> {
+    // Two functions, since one that is given the mark would have to require that it is ASCII.
+
+    // The words of a line.
+    pub fn words(line: &'a str) -> Parts<'a>
+        ensures { result ≡ pieces space line.now }
+    {
+        Parts {
+            left: line.split(' '),
+        }
+    }
+
+    // The numbers of a cell.
+    pub fn numbers(cell: &'a str) -> Parts<'a>
+        ensures { result ≡ pieces comma cell.now }
+    {
+        Parts {
+            left: cell.split(','),
+        }
+    }
+}
+
+impl<'a> Iterator for Parts<'a> {
+    type Item = &'a str;
+
+    ghost next_gives = { YieldsFirstRef (λ parts. parts) };
+
+    ghost remaining = { item_count (λ parts. parts) };
+
+    fn next(&mut self) -> Option<&'a str> {
+        self.left.next()
+    }
+}
