@@ -17,7 +17,7 @@ const CAPACITY: u16 = 24;
 const APPLICATIONS: u32 = 200;
 
 // The nanoseconds of one application to these lots, as the mean of many.
-fn nanos<R: Rule>(rt: &HostRuntime, rule: &R, lots: &[Lot]) -> anyhow::Result<u128> {
+fn nanos(rt: &HostRuntime, rule: &dyn Rule, lots: &[Lot]) -> anyhow::Result<u128> {
     let start = Instant::now(rt)?;
     for _ in 0..APPLICATIONS {
         // Not on the heap, where time-table took up to twice as long.
@@ -29,7 +29,7 @@ fn nanos<R: Rule>(rt: &HostRuntime, rule: &R, lots: &[Lot]) -> anyhow::Result<u1
 }
 
 // One line for each number of lots: short windows, and windows over the week.
-fn measure<R: Rule>(rt: &HostRuntime, rule: &R) -> anyhow::Result<()> {
+fn measure(rt: &HostRuntime, rule: &dyn Rule) -> anyhow::Result<()> {
     let short_table = table(Windows::Short);
     let week_table = table(Windows::Week);
     for count in [8, 16, 32, 64] {
@@ -41,18 +41,24 @@ fn measure<R: Rule>(rt: &HostRuntime, rule: &R) -> anyhow::Result<()> {
 }
 
 fn run(rt: &HostRuntime) -> anyhow::Result<()> {
-    let Some(name) = env::args(rt)?.nth(1) else {
-        rt.println("overload\ntimetable\nnotfirst\nhouse")?;
-        return Ok(());
-    };
-    // Each arm has a rule of another type, so a table of names and rules would need boxes.
-    match name.as_str() {
-        "overload" => measure(rt, &Overload),
-        "timetable" => measure(rt, &TimeTable),
-        "notfirst" => measure(rt, &NotFirst),
-        "house" => measure(rt, &House),
-        _ => Err(anyhow!("no benchmark has this name")),
+    let benchmarks: [(&str, &dyn Rule); 4] = [
+        ("overload", &Overload),
+        ("timetable", &TimeTable),
+        ("notfirst", &NotFirst),
+        ("house", &House),
+    ];
+    let asked = env::args(rt)?.nth(1);
+    for (name, rule) in benchmarks {
+        match &asked {
+            None => rt.println(name)?,
+            Some(asked) if asked.as_str() == name => return measure(rt, rule),
+            Some(_) => {}
+        }
     }
+    if asked.is_some() {
+        return Err(anyhow!("no benchmark has this name"));
+    }
+    Ok(())
 }
 
 fn main(rt: HostRuntime) -> anyhow::Result<()> {

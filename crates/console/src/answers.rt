@@ -45,7 +45,8 @@ impl fmt::Display for Answer {
     }
 }
 
-// Why a call comes to no answer: the line does not write it, it refuses, or there is no memory for it.
+// Why a call comes to no answer of its own: the line does not write it, it refuses, or there is no memory for it.
+// Apart from `Answer`, which has no case for want of memory, so that `?` can carry it.
 #[derive(Clone, Copy)]
 pub enum Fault {
     Unknown,
@@ -53,6 +54,7 @@ pub enum Fault {
     Memory,
 }
 
+// By hand, as the next: the clauses of the calls read what they give.
 impl From<Refusal> for Fault {
     ghost from_gives = { λ refusal r. r ≡ refused_by refusal };
 

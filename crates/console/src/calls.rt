@@ -31,7 +31,7 @@ fn call(heap: Global, line: &[u8]) -> Result<Answer, Fault>
     ensures { MatchResult result (Answers (pieces space line.now)) (Faults (pieces space line.now)) }
 {
     let text = from_utf8(line).map_err(|_| Fault::Unknown)?;
-    let mut words = Parts::words(text);
+    let mut words = Parts::cut(text, ' ');
     match words.next() {
         Some("overflow") => overflow(heap, words),
         Some("rule") => rule(heap, words),

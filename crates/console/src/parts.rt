@@ -1,7 +1,7 @@
 // A text that is cut at a mark, and read part by part: the words of a line, or the numbers of a cell.
-ghost use Rattle.std.specs.Prelude.{◌≡◌};
+ghost use Rattle.std.specs.Prelude.{◌≡◌, ◌<◌};
 ghost use Rattle.std.specs.Iterator.{YieldsFirstRef, item_count};
-ghost use Rattle.console.specs.Syntax.{pieces, space, comma};
+ghost use Rattle.console.specs.Syntax.{pieces};
 
 use std::marker::Model;
 use std::str::Split;
@@ -25,23 +25,13 @@ impl<'a> Model for Parts<'a> {
 }
 
 impl<'a> Parts<'a> {
-    // Two functions, since one that is given the mark would have to require that it is ASCII.
-
-    // The words of a line.
-    pub fn words(line: &'a str) -> Parts<'a>
-        ensures { result ≡ pieces space line.now }
+    // The parts between the marks of a text. A mark is an ASCII character, which is one byte.
+    pub fn cut(text: &'a str, mark: char) -> Parts<'a>
+        requires { mark < 128 }
+        ensures { result ≡ pieces mark text.now }
     {
         Parts {
-            left: line.split(' '),
-        }
-    }
-
-    // The numbers of a cell.
-    pub fn numbers(cell: &'a str) -> Parts<'a>
-        ensures { result ≡ pieces comma cell.now }
-    {
-        Parts {
-            left: cell.split(','),
+            left: text.split(mark),
         }
     }
 }

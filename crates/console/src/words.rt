@@ -9,7 +9,7 @@ use crate::parts::Parts;
 use lots::Lot;
 use std::alloc::Global;
 
-// No `FromStr` here: `u16` has another one, `Lot` is of another crate, and a type around each would be taken off at once.
+// No `FromStr` here: that of `u16` takes a plus sign, `Lot` is of another crate, and a type around each would be taken off at once.
 
 // The number that the word writes in decimal digits alone, where it fits.
 fn number(word: &str) -> Option<u16>
@@ -26,7 +26,7 @@ fn number(word: &str) -> Option<u16>
 fn cell(word: &str) -> Option<Lot>
     ensures { Reads (Cell word.now) result }
 {
-    let mut numbers = Parts::numbers(word);
+    let mut numbers = Parts::cut(word, ',');
     let est = number(numbers.next()?)?;
     let lct = number(numbers.next()?)?;
     let p = number(numbers.next()?)?;
@@ -42,7 +42,7 @@ fn cells(heap: Global, words: Parts<'_>) -> Result<Vec<Lot>, Fault>
     ensures { MatchResult result (λ lots. AllZip Cell words.entry lots.items) (λ f. Unread f ((T : List Lot) → AllZip Cell words.entry T → ⊥)) }
 {
     let mut lots = Vec::new(heap);
-    // A loop, since of a chain that collects nothing says that it fails where a cell does.
+    // A loop: a chain that collects does not promise to fail where a cell is wrong.
     for word in words {
         let lot = cell(word).ok_or(Fault::Unknown)?;
         lots.push(lot)?;

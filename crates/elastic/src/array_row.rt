@@ -6,7 +6,8 @@ ghost use Rattle.elastic.specs.Rows.{Ascending, Stored, Put, Seated};
 use crate::row::{Keyed, Place, Row};
 use std::marker::Model;
 
-// At most `N` elements, which lie in the value itself, in the strict order of their keys.
+// At most `N` elements, which lie in the value itself, in the strict order of their keys. An array and a length,
+// since an `ArrayVec` lends none of its free cells to a row.
 #[derive(Drop)]
 pub struct ArrayRow<E: Keyed, const N: usize> {
     pub(crate) cells: [E; N],
@@ -22,7 +23,8 @@ impl<E: Keyed, const N: usize> Model for ArrayRow<E, N> {
     ghost invariant = { λ r. (r.len ≤ N) × ((o : IsTotalOrder E.Key.Ord.cmp) → Ascending o E.keyed (take r.len r.cells)) };
 }
 
-// Puts an element among the first `len` of these cells, and answers how many these are then.
+// Puts an element among the first `len` of these cells, and answers how many these are then. It is given the cells
+// alone, so that the row's order may wait until its length is written.
 fn put_among<E: Keyed + Copy>(cells: &mut [E], len: usize, element: E) -> (Place, usize)
     requires { len ≤ length cells.old }
     ensures stored { Stored element (take len cells.old) cells.old (take result.1 cells.new) cells.new result.0 }

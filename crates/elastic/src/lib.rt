@@ -14,17 +14,17 @@ mod row;
 pub use array_row::ArrayRow;
 pub use row::{Keyed, Place, Row};
 
-// The work that is left over at the latest lct of a table, and the number of points of its profile.
+// The work that is left over at the latest lct of a table, and the number of points of its profile: a pair, by a rule of the project.
 pub fn overflow_of(table: Table<'_>) -> (u32, usize)
     ensures answer { Answered table.entry.capacity table.entry.lots.now (Ok result) }
     ensures points { FewPoints table.entry.lots.now (Ok result) }
     ensures sound { NoneIfSchedulable table.entry.capacity table.entry.lots.now (Ok result) }
 {
     let profile = Profile::of(table);
-    (profile.overflow(table.capacity), profile.len())
+    (profile.overflow(), profile.len())
 }
 
-// The same of lots that may be no lawful table.
+// The overflow and the number of points of any lots and capacity. It refuses those that are no lawful table.
 pub fn overflow(capacity: u16, lots: &[Lot]) -> Result<(u32, usize), Refusal>
     ensures answer { Answered capacity lots.now result }
     ensures points { FewPoints lots.now result }

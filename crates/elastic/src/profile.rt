@@ -6,7 +6,7 @@ ghost use Rattle.lots.specs.Tables.{LawfulLot, Lawful};
 ghost use Rattle.lots.specs.declared.Lot.{Lot};
 ghost use Rattle.elastic.specs.Points.{at_est, at_ect, at_lct, Small, Entered, Profiles, point_at, altered, max_points};
 ghost use Rattle.elastic.specs.Profile.{overflow as left_over};
-ghost use Rattle.std.specs.Cmp.{nat_cmp_total};
+ghost use Rattle.std.proofs.Props.{props};
 
 use crate::array_row::ArrayRow;
 use crate::row::{Keyed, Place};
@@ -74,8 +74,6 @@ impl Keyed for Point {
 
     ghost keyed = { λ p. p.minute };
 
-    ghost order = { nat_cmp_total };
-
     fn key(&self) -> u16 {
         self.minute
     }
@@ -83,32 +81,33 @@ impl Keyed for Point {
 
 // The points of a list of lots.
 #[derive(Drop)]
-pub(crate) struct Profile {
-    points: ArrayRow<Point, MAX_POINTS>,
+struct Points {
+    row: ArrayRow<Point, MAX_POINTS>,
 }
 
-impl Profile {
-    // Adds to the two changes of the point at the place i.
+impl Points {
+    // Adds to the two changes of the point at the place i. The row's cells are reached here, and the point lent here:
+    // a row that lent it could not know that its minute stays.
     fn alter(&mut self, i: usize, change: Point)
-        requires within { i < length self.old.points }
-        requires few { length self.old.points ≤ max_points }
-        requires small { Small (max_capacity * max_points) (point_at self.old.points i) }
+        requires within { i < length self.old.row }
+        requires few { length self.old.row ≤ max_points }
+        requires small { Small (max_capacity * max_points) (point_at self.old.row i) }
         requires small_change { Small max_capacity change }
-        ensures { self.new.points ≡ slice_set self.old.points i (altered (point_at self.old.points i) change) }
+        ensures { self.new.row ≡ slice_set self.old.row i (altered (point_at self.old.row i) change) }
     {
-        let row = &mut self.points;
+        let row = &mut self.row;
         let point = &mut row.cells[i];
         point.add(change);
     }
 
     // Enters a change: as a point of its own, or with the changes of the point that its minute has.
     fn enter(&mut self, change: Point)
-        requires free { length self.old.points < max_points }
-        requires small { AllByRecursion (Small (max_capacity * max_points)) self.old.points }
+        requires free { length self.old.row < max_points }
+        requires small { AllByRecursion (Small (max_capacity * max_points)) self.old.row }
         requires small_change { Small max_capacity change }
-        ensures { Entered self.old.points change self.new.points }
+        ensures { Entered self.old.row change self.new.row }
     {
-        match self.points.put(change) {
+        match self.row.put(change) {
             Place::Placed(_) => {}
             Place::Present(i) => self.alter(i, change),
             Place::Full => unreachable(),
@@ -118,44 +117,52 @@ impl Profile {
     // Adds a lot to the list whose profile this is.
     fn add(&mut self, lot: &Lot)
         requires lawful { LawfulLot max_capacity lot.now }
-        requires profile { (Ω : List Lot) × (length Ω < max_lots) × Profiles self.old.points Ω }
-        ensures { (Ω : List Lot) → Profiles self.old.points Ω → Profiles self.new.points (Ω ++ lot.now ∷ []) }
+        requires profile { (Ω : List Lot) × (length Ω < max_lots) × Profiles self.old.row Ω }
+        ensures { (Ω : List Lot) → Profiles self.old.row Ω → Profiles self.new.row (Ω ++ lot.now ∷ []) }
     {
         self.enter(Point::at_est(lot));
         self.enter(Point::at_ect(lot));
         self.enter(Point::at_lct(lot));
     }
+}
 
-    // The profile of a lawful list.
-    pub(crate) fn of(table: Table<'_>) -> Profile
-        ensures { Profiles result.points table.entry.lots.now }
+// The profile of a table.
+#[derive(Drop)]
+pub(crate) struct Profile<'a> {
+    table: Table<'a>,
+    points: Points,
+    ghost profiles: { Profiles points.row table.lots.now } by { Prim.hlevel props },
+}
+
+impl<'a> Profile<'a> {
+    pub(crate) fn of(table: Table<'a>) -> Profile<'a>
+        ensures { result.table ≡ table.entry }
     {
-        let mut profile = Profile {
-            points: ArrayRow::new(),
+        let mut points = Points {
+            row: ArrayRow::new(),
         };
         for lot in table.lots {
-            profile.add(lot);
+            points.add(lot);
         }
-        profile
+        Profile { table, points }
     }
 
     // How many points the profile has.
     pub(crate) fn len(&self) -> usize
-        ensures { result ≡ length self.now.points }
+        ensures { result ≡ length self.now.points.row }
     {
-        self.points.as_slice().len()
+        self.points.row.as_slice().len()
     }
 
     // What is left over at the last point.
-    pub(crate) fn overflow(&self, capacity: u16) -> u32
-        requires { (Ω : List Lot) × Lawful max_capacity Ω × Profiles self.now.points Ω }
-        ensures { (Ω : List Lot) → Lawful max_capacity Ω → Profiles self.now.points Ω → result ≡ left_over capacity Ω }
+    pub(crate) fn overflow(&self) -> u32
+        ensures { result ≡ left_over self.now.table.capacity self.now.table.lots.now }
     {
-        walk(self.points.as_slice(), capacity)
+        walk(self.points.row.as_slice(), self.table.capacity)
     }
 }
 
-// What is left over at the last of the points.
+// What is left over at the last of the points. The four numbers are one step's; a struct of them would be taken apart at once.
 fn walk(points: &[Point], capacity: u16) -> u32
     requires { (Ω : List Lot) × Lawful max_capacity Ω × Profiles points.now Ω }
     ensures { (Ω : List Lot) → Lawful max_capacity Ω → Profiles points.now Ω → result ≡ left_over capacity Ω }
@@ -192,5 +199,5 @@ fn changed(trays: u32, change: i32) -> u32
     requires not_above { (pos trays +ℤ change) ≤ℤ pos (max_capacity * max_lots) }
     ensures { pos result ≡ pos trays +ℤ change }
 {
-    (trays as i32 + change) as u32
+    trays.saturating_add_signed(change)
 }

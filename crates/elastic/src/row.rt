@@ -1,10 +1,10 @@
 // A row of elements in lent cells, kept in the strict order of their keys.
 ghost use Rattle.std.specs.Prelude.{◌≡◌, ◌+◌, ◌<◌, ◌≤◌, min, ◌++◌, length, take, drop, MatchResult};
 ghost use Rattle.std.specs.List.{insert};
-ghost use Rattle.std.specs.Cmp.{IsTotalOrder, nat_cmp_total};
+ghost use Rattle.std.specs.Cmp.{IsTotalOrder};
 ghost use Rattle.elastic.specs.Rows.{cells_of, row_of, Ascending, Sought, Stored, Seated};
 
-// Where an element came to stand.
+// Where an element came to stand. Three answers, of which none is an error, and so no `Result`.
 #[derive(Clone, Copy, PartialEq, Eq, Debug)]
 pub enum Place {
     // It was put at this place.
@@ -23,11 +23,10 @@ pub trait Keyed {
 
     fn key(&self) -> Self::Key
         ensures { result ≡ keyed self.now };
-
-    ghost order: { IsTotalOrder Self.Key.Ord.cmp };
 }
 
-// The first `len` of some lent cells, or all of them where there are fewer.
+// The first `len` of some lent cells, or all of them where there are fewer. That cells are lent is a rule of the project;
+// a vector would own them.
 #[derive(Drop)]
 pub struct Row<'a, E> {
     cells: &'a mut [E],
@@ -100,8 +99,6 @@ mod tests {
         type Key = u16;
 
         ghost keyed = { λ m. m.0 };
-
-        ghost order = { nat_cmp_total };
 
         fn key(&self) -> u16 {
             self.0

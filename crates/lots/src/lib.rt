@@ -1,7 +1,7 @@
 // Lots, the law of their tables, and the numbers by which calls refuse.
 #![tactic(auto)]
 
-ghost use Rattle.std.specs.Prelude.{◌≡◌, ◌+◌, ◌↔◌, IsTrue};
+ghost use Rattle.std.specs.Prelude.{◌≡◌, ◌+◌, ◌≤◌, ◌↔◌, IsTrue};
 ghost use Rattle.lots.specs.Refusals.{refusal_number};
 ghost use Rattle.lots.specs.Tables.{ect as earliest_end, lst as latest_start, LawfulLot, Lawful};
 
@@ -50,15 +50,18 @@ impl Lot {
         self.lct.saturating_sub(self.p)
     }
 
+    // Whether the run fits the window.
+    pub fn fits(&self) -> bool
+        ensures { IsTrue result ↔ (earliest_end self.now ≤ self.now.lct) }
+    {
+        self.ect() <= u32::from(self.lct)
+    }
+
     // Whether the lot is lawful in a table of this capacity.
     pub fn is_lawful(&self, capacity: u16) -> bool
         ensures { IsTrue result ↔ LawfulLot capacity self.now }
     {
-        1 <= self.p
-            && 1 <= self.c
-            && self.c <= capacity
-            && self.ect() <= u32::from(self.lct)
-            && self.lct <= HORIZON
+        1 <= self.p && 1 <= self.c && self.c <= capacity && self.fits() && self.lct <= HORIZON
     }
 }
 
@@ -69,6 +72,7 @@ pub fn is_lawful(capacity: u16, lots: &[Lot]) -> bool
     if capacity < 1 || capacity > MAX_CAPACITY {
         return false;
     }
+    // A loop over the lots with their numbers is a rule of the project: each is looked at, and named by its number.
     for (number, lot) in lots.iter().enumerate() {
         if number >= MAX_LOTS || !lot.is_lawful(capacity) {
             return false;
@@ -98,7 +102,6 @@ pub enum Refusal {
     Commands = 16,
 }
 
-// The number that stands for a refusal.
 impl From<Refusal> for u8 {
     ghost from_gives = { λ refusal number. number ≡ refusal_number refusal };
 

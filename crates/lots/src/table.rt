@@ -15,9 +15,9 @@ pub struct Table<'a> {
 }
 
 impl<'a> Table<'a> {
-    // The table of this capacity and these lots, where it is lawful.
+    // Refuses a capacity and lots that are no lawful table.
     pub fn new(capacity: u16, lots: &'a [Lot]) -> Result<Table<'a>, Refusal>
-        ensures { MatchResult result (λ t. (t.capacity ≡ capacity) × (t.lots.now ≡ lots.now)) (λ e. (Lawful capacity lots.now → ⊥) × (e ≡ Unlawful)) }
+        ensures { MatchResult result (λ t. (t.capacity ≡ capacity) × (t.lots.now ≡ lots.now) × Lawful capacity lots.now) (λ e. (Lawful capacity lots.now → ⊥) × (e ≡ Unlawful)) }
     {
         if is_lawful(capacity, lots) {
             Ok(Table { capacity, lots })

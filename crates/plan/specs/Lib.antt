@@ -3,4 +3,3 @@ pub mod Calls
 pub mod Book
 pub mod History
 pub mod Promise
-pub mod Held

@@ -4,7 +4,6 @@ ghost use Rattle.plan.specs.Tables.{empty};
 ghost use Rattle.plan.specs.Calls.{Opened, Admitted, Narrowed, Tightened};
 ghost use Rattle.plan.specs.Book.{opening, admitting, narrowing, tightening, accepted, noted};
 ghost use Rattle.plan.specs.History.{History, Begins, Follows};
-ghost use Rattle.plan.specs.Held.{held};
 
 use crate::Plan;
 use crate::checks::{admission, narrowed};
@@ -15,8 +14,8 @@ use rule::{Rule, Verdict, settle};
 impl Plan {
     // No lots, and a capacity of 1.
     pub fn new() -> Plan
-        ensures exact { held result ≡ empty 1 }
-        ensures begins { History [] (held result) }
+        ensures exact { result ≡ empty 1 }
+        ensures begins { History [] result }
     {
         Plan {
             capacity: 1,
@@ -26,9 +25,9 @@ impl Plan {
 
     // Empties the plan and sets its capacity.
     pub fn open(&mut self, capacity: u16) -> Result<(), Refusal>
-        ensures exact { Opened capacity (held self.old) (held self.new) result }
-        ensures follows { Follows (noted (opening capacity) result) (held self.old) (held self.new) }
-        ensures begins { Begins capacity result (held self.new) }
+        ensures exact { Opened capacity self.old self.new result }
+        ensures follows { Follows (noted (opening capacity) result) self.old self.new }
+        ensures begins { Begins capacity result self.new }
     {
         if capacity == 0 || capacity > MAX_CAPACITY {
             return Err(Refusal::Capacity);
@@ -40,8 +39,8 @@ impl Plan {
 
     // Adds the lot and answers its number.
     pub fn admit(&mut self, lot: Lot) -> Result<usize, Refusal>
-        ensures exact { Admitted lot (held self.old) (held self.new) result }
-        ensures follows { Follows (noted (admitting lot) result) (held self.old) (held self.new) }
+        ensures exact { Admitted lot self.old self.new result }
+        ensures follows { Follows (noted (admitting lot) result) self.old self.new }
     {
         let number = self.lots.len();
         admission(lot, self.capacity, number)?;
@@ -51,8 +50,8 @@ impl Plan {
 
     // Has the lot of this number go in at `from` or later and be out by `to`, where these are tighter.
     pub fn narrow(&mut self, lot: usize, from: u16, to: u16) -> Result<(), Refusal>
-        ensures exact { Narrowed lot from to (held self.old) (held self.new) result }
-        ensures follows { Follows (noted (narrowing lot from to) result) (held self.old) (held self.new) }
+        ensures exact { Narrowed lot from to self.old self.new result }
+        ensures follows { Follows (noted (narrowing lot from to) result) self.old self.new }
     {
         let place = self.lots.get_mut(lot).ok_or(Refusal::NoSuchLot)?;
         let tighter = narrowed(*place, from, to)?;
@@ -62,20 +61,16 @@ impl Plan {
 
     // Applies the rule until it is still or dead, and counts the applications. Dead puts back the windows from before.
     pub fn tighten<R: Rule>(&mut self, rule: &R) -> (Verdict, u32)
-        ensures exact { Tightened (R.meaning rule.now) (held self.old) (held self.new) result.0 result.1 }
-        ensures follows { Follows (accepted (tightening (R.meaning rule.now))) (held self.old) (held self.new) }
+        ensures exact { Tightened (R.meaning rule.now) self.old self.new result.0 result.1 }
+        ensures follows { Follows (accepted (tightening (R.meaning rule.now))) self.old self.new }
     {
-        // No `unwrap`, which reads as if it could stop the program: a lawful table is never refused.
-        match settle(rule, self.capacity, self.lots.as_mut_slice()) {
-            Ok(answer) => answer,
-            Err(_) => unreachable(),
-        }
+        // A lawful table is never refused.
+        settle(rule, self.capacity, self.lots.as_mut_slice()).unwrap()
     }
 }
 
-// The new plan.
 impl Default for Plan {
-    ghost is_default = { λ plan. (held plan ≡ empty 1) × History [] (held plan) };
+    ghost is_default = { λ plan. (plan ≡ empty 1) × History [] plan };
 
     fn default() -> Plan {
         Self::new()

@@ -18,7 +18,7 @@ pub(crate) fn admission(lot: Lot, capacity: u16, len: usize) -> Result<(), Refus
     if lot.p == 0 {
         return Err(Refusal::Run);
     }
-    if lot.ect() > u32::from(lot.lct) || lot.lct > HORIZON {
+    if !lot.fits() || lot.lct > HORIZON {
         return Err(Refusal::Window);
     }
     Ok(())
@@ -36,7 +36,7 @@ pub(crate) fn narrowed(lot: Lot, from: u16, to: u16) -> Result<Lot, Refusal>
         lct: to.min(lot.lct),
         ..lot
     };
-    if tighter.ect() > u32::from(tighter.lct) {
+    if !tighter.fits() {
         return Err(Refusal::NoRoom);
     }
     Ok(tighter)

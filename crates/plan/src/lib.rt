@@ -1,11 +1,9 @@
 // A plan: the table of a machine's lots, which its calls alter in place and keep lawful.
 #![tactic(auto)]
 
-ghost use Rattle.std.proofs.Props.{props};
-ghost use Rattle.lots.specs.Tables.{Lawful};
-
 use arrayvec::ArrayVec;
 use lots::{Lot, MAX_LOTS};
+use std::marker::Model;
 
 mod calls;
 mod checks;
@@ -14,10 +12,20 @@ mod views;
 
 pub use promise::plans_answer_to_their_books;
 
-// No `Model`: behind it a caller could not read that the table is lawful.
 #[derive(Drop)]
 pub struct Plan {
     capacity: u16,
     lots: ArrayVec<Lot, MAX_LOTS>,
-    pub ghost lawful: { Lawful capacity lots.items } by { Prim.hlevel props },
+}
+
+// Clauses see its table.
+impl Model for Plan {
+    ghost use Rattle.lots.specs.Tables.{Lawful};
+    ghost use Rattle.plan.specs.Tables.{Table};
+
+    ghost Value = { Table };
+
+    ghost view = { λ p. record { capacity = p.capacity; lots = p.lots.items } };
+
+    ghost invariant = { λ p. Lawful p.capacity p.lots.items };
 }

@@ -1,20 +1,21 @@
 // What a plan shows of itself.
 ghost use Rattle.std.specs.Prelude.{◌≡◌};
-ghost use Rattle.plan.specs.Held.{held};
+ghost use Rattle.lots.specs.Tables.{Lawful};
 
 use crate::Plan;
 use lots::Lot;
 
 impl Plan {
     pub fn capacity(&self) -> u16
-        ensures exact { result ≡ (held self.now).capacity }
+        ensures exact { result ≡ self.now.capacity }
     {
         self.capacity
     }
 
     // The lots by number, with the windows that the plan has left them.
     pub fn lots(&self) -> &[Lot]
-        ensures exact { result.now ≡ (held self.now).lots }
+        ensures exact { result.now ≡ self.now.lots }
+        ensures lawful { Lawful self.now.capacity self.now.lots }
     {
         self.lots.as_slice()
     }

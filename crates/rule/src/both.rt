@@ -7,7 +7,7 @@ use arrayvec::ArrayVec;
 use lots::{Lot, MAX_LOTS, Refusal};
 
 // Runs the first, and then the second on its table.
-#[derive(Clone, Copy, Debug)]
+#[derive(Clone, Copy, Default, Debug)]
 pub struct Both<X, Y> {
     pub first: X,
     pub second: Y,

@@ -11,6 +11,7 @@ pub fn settle<R: Rule>(rule: &R, capacity: u16, lots: &mut [Lot]) -> Result<(Ver
     ensures { Settles (R.meaning rule.now) capacity lots.old lots.new result }
 {
     Table::new(capacity, lots)?;
+    // A lawful table has at most as many lots as there is room for.
     let before = ArrayVec::<Lot, MAX_LOTS>::try_from(&*lots).unwrap();
     let mut moves: u32 = 0;
     loop {

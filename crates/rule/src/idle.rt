@@ -5,7 +5,7 @@ ghost use Rattle.rule.specs.Laws.Tables.{idle_sound};
 use crate::{Rule, Verdict};
 use lots::{Lot, Refusal, Table};
 
-#[derive(Clone, Copy, Debug)]
+#[derive(Clone, Copy, Default, Debug)]
 pub struct Idle;
 
 impl Rule for Idle {

@@ -43,11 +43,12 @@ impl fmt::Display for Verdict {
     }
 }
 
-// A rule, by its meaning. It owes four facts, and then every pile, plan and search over it is right.
+// A rule, by its meaning. It owes four facts, and then every pile of it and every plan that it tightens is right.
 pub trait Rule {
     ghost meaning: { Self → Meaning };
 
     // Writes the table that the rule makes of these lots over them, or refuses a table that is not lawful.
+    // The lots are lent to be written, so they and the capacity come apart and not as a `Table`.
     fn apply(&self, capacity: u16, lots: &mut [Lot]) -> Result<Verdict, Refusal>
         ensures { Applied (meaning self.now) capacity lots.old lots.new result };
 

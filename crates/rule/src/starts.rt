@@ -6,7 +6,7 @@ ghost use Rattle.rule.specs.Raised.{later, later_all, all_fit, raise as raised, 
 use crate::Verdict;
 use lots::Lot;
 
-// The bound of a lot: 0 where none is given.
+// The bound of a lot. 0 where none is given: no est is lower, so it is no bound, and needs no `Option`.
 fn bound_of(bounds: &[u16], number: usize) -> u16
     ensures { result ≡ slice_index bounds.now number }
 {
@@ -21,14 +21,14 @@ fn fits(lot: &Lot, bound: u16) -> bool
         est: bound.max(lot.est),
         ..*lot
     };
-    later.ect() <= u32::from(lot.lct)
+    later.fits()
 }
 
-// Whether every run fits its window then.
+// Whether every run fits its window where each lot starts at its bound or later.
 fn every_run_fits(lots: &[Lot], bounds: &[u16]) -> bool
     ensures { result ≡ all_fit (later_all (λ j. slice_index bounds.now j) 0 lots.now) }
 {
-    // A chain of `all` was tried: the time-table on long windows took half as long again.
+    // A loop: with a chain of `all` the time-table takes half as long again on long windows.
     for (number, lot) in lots.iter().enumerate() {
         if !fits(lot, bound_of(bounds, number)) {
             return false;
@@ -45,6 +45,7 @@ pub fn raise(lots: &mut [Lot], bounds: &[u16]) -> Verdict
         return Verdict::Dead;
     }
     let mut verdict = Verdict::Still;
+    // By number, as above, and not zipped: lots past the last bound are looked at too.
     for (number, lot) in lots.iter_mut().enumerate() {
         let bound = bound_of(bounds, number);
         if lot.est < bound {

@@ -7,7 +7,7 @@ ghost use Rattle.rule.specs.Laws.Mirror.{turned_sound};
 use crate::{Rule, Verdict};
 use lots::{HORIZON, Lot, Refusal, Table};
 
-#[derive(Clone, Copy, Debug)]
+#[derive(Clone, Copy, Default, Debug)]
 pub struct Turned<X> {
     pub rule: X,
 }

@@ -97,19 +97,16 @@ after_last_found f n None bound none is = is ∙ sym (after_last_none f n none)
 after_last_found f n (Some m) bound last is = is ∙ after_last_at f n m last.0 last.1 last.2
 
 -- the rule at the capacity C and the lots T: the loads are of the table s, which is the table t of these
-module _ (C : ℕ) (T : List Lot) (s t : Table) (same : s ≡ t) (is : (t.capacity ≡ C) × (t.lots.now ≡ T)) where
+module _ (C : ℕ) (T : List Lot) (s t : Table) (same : s ≡ t) (is : (t.capacity ≡ C) × (t.lots.now ≡ T) × Lawful C T) where
   here : (P : ℕ → List Lot → Type 0) → P s.capacity s.lots.now → P C T
   here P h = subst (λ D. P D T) (ap (λ (u : Table). u.capacity) same ∙ is.0) (subst (P s.capacity) (ap (λ (u : Table). u.lots.now) same ∙ is.1) h)
-
-  lawful_here : Lawful C T
-  lawful_here = here Lawful s.lawful
 
   choice : (b : Bool) → b ≡ passes s → time_table s.capacity s.lots.now ≡ cond b dead (raise (bound_of s.capacity s.lots.now) s.lots.now)
   choice b e = ap (λ d. cond d dead (raise (bound_of s.capacity s.lots.now) s.lots.now)) (sym e)
 
   pub dead_applied : true ≡ passes s → Applied time_table C T T (Ok Dead)
-  dead_applied e = (lawful_here, here (λ D U. time_table D U ≡ dead) (choice true e), refl)
+  dead_applied e = (is.2, here (λ D U. time_table D U ≡ dead) (choice true e), refl)
 
   pub raise_applied : false ≡ passes s → (bound : ℕ → ℕ) → ((j : ℕ) → j < length s.lots.now → bound j ≡ bound_of s.capacity s.lots.now j) → (U : List Lot) (v : Verdict) → Answers (raise bound T) T U v → Applied time_table C T U (Ok v)
   raise_applied e bound bounds U v =
-      applied_from_answers time_table C T U bound v lawful_here (here (λ D U. time_table D U ≡ raise bound U) (choice false e ∙ sym (raise_same bound (bound_of s.capacity s.lots.now) s.lots.now bounds)))
+      applied_from_answers time_table C T U bound v is.2 (here (λ D U. time_table D U ≡ raise bound U) (choice false e ∙ sym (raise_same bound (bound_of s.capacity s.lots.now) s.lots.now bounds)))

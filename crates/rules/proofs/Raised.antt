@@ -25,8 +25,6 @@ applied_from_answers m C T U bound Moved ok e a = (ok, e ∙ a.0, a.1)
 applied_from_answers m C T U bound Dead ok e a = (ok, e ∙ a.0, a.1)
 
 -- the same of a table that was found lawful
-pub applied_to_table : (m : Meaning) (C D : ℕ) (T V U : List Lot) (bound : ℕ → ℕ) (v : Verdict) → (C ≡ D) × (T ≡ V) → Lawful C T → m C T ≡ raise bound T → Answers (raise bound V) V U v → Applied m D V U (Ok v)
-applied_to_table m C D T V U bound v is ok e =
-    applied_from_answers m D V U bound v
-    (subst (Lawful D) is.1 (subst (λ E. Lawful E T) is.0 ok))
-    (subst (λ X. m D X ≡ raise bound X) is.1 (subst (λ E. m E T ≡ raise bound T) is.0 e))
+pub applied_to_table : (m : Meaning) (C D : ℕ) (T V U : List Lot) (bound : ℕ → ℕ) (v : Verdict) → (C ≡ D) × (T ≡ V) × Lawful D V → m C T ≡ raise bound T → Answers (raise bound V) V U v → Applied m D V U (Ok v)
+applied_to_table m C D T V U bound v is e =
+    applied_from_answers m D V U bound v is.2 (subst (λ X. m D X ≡ raise bound X) is.1 (subst (λ E. m E T ≡ raise bound T) is.0 e))

@@ -16,6 +16,7 @@ pub(crate) fn chosen<F: Fn(usize, &Lot) -> bool>(
     ensures { (p : ℕ → AnyLot → Bool) → Tests (F.post test) p → result.items ≡ those_of p 0 table.entry.lots.now }
 {
     let mut chosen = ArrayVec::new();
+    // A loop, since what the library collects asks for an allocator.
     for (number, lot) in table.lots.iter().enumerate() {
         if test(number, lot) {
             chosen.push(*lot);
@@ -24,7 +25,7 @@ pub(crate) fn chosen<F: Fn(usize, &Lot) -> bool>(
     chosen
 }
 
-// Whether more work is left over than fits the windows.
+// Whether some work is left over.
 pub(crate) fn is_overfull(table: Table<'_>) -> bool
     ensures { result ≡ more_than_fits table.entry.capacity table.entry.lots.now }
 {

@@ -1,11 +1,10 @@
 // The distinct latest ends of a table, in their order.
-ghost use Rattle.std.specs.Cmp.{nat_cmp_total};
 ghost use Rattle.rules.specs.Cuts.{CutsOf};
 
 use elastic::{ArrayRow, Keyed};
 use lots::{MAX_LOTS, Table};
 
-// A latest end, with the lowest number of a lot that has it.
+// A latest end, with the lowest number of a lot that has it, which tells whose end it is.
 #[derive(Clone, Copy, Default)]
 pub(crate) struct Cut {
     pub(crate) lct: u16,
@@ -16,8 +15,6 @@ impl Keyed for Cut {
     type Key = u16;
 
     ghost keyed = { λ x. x.lct };
-
-    ghost order = { nat_cmp_total };
 
     fn key(&self) -> u16 {
         self.lct

@@ -12,22 +12,7 @@ type Pile = Both<
     Both<TimeTable, Both<NotFirst, Both<Turned<TimeTable>, Turned<NotFirst>>>>,
 >;
 
-fn pile() -> Pile {
-    Both {
-        first: Overload,
-        second: Both {
-            first: TimeTable,
-            second: Both {
-                first: NotFirst,
-                second: Both {
-                    first: Turned { rule: TimeTable },
-                    second: Turned { rule: NotFirst },
-                },
-            },
-        },
-    }
-}
-
+// The house pile, as a rule of a type of its own: its meaning is one definition.
 #[derive(Clone, Copy, Debug)]
 pub struct House;
 
@@ -37,7 +22,7 @@ impl Rule for House {
     ghost sound = { λ x. house_sound };
 
     fn apply(&self, capacity: u16, lots: &mut [Lot]) -> Result<Verdict, Refusal> {
-        pile().apply(capacity, lots)
+        Pile::default().apply(capacity, lots)
     }
 }
 

@@ -13,14 +13,14 @@ use arrayvec::ArrayVec;
 use lots::{Lot, MAX_LOTS, Refusal, Table};
 use rule::{Rule, Verdict, raise};
 
-// The least est, and 0 without lots.
+// The least est, and 0 without lots, as it is defined.
 fn earliest_start(lots: &[Lot]) -> u16
     ensures { result ≡ earliest lots.now }
 {
     lots.iter().map(|lot| lot.est).min().unwrap_or(0)
 }
 
-// The least ect, and 0 without lots.
+// The least ect, and 0 without lots. One function for both, by a key, would be longer than the two.
 fn least_end(lots: &[Lot]) -> u32
     ensures { result ≡ least_ect lots.now }
 {
@@ -61,27 +61,40 @@ struct Candidate<'a> {
 }
 
 impl Candidate<'_> {
-    // Whether a lot is another, cannot be out by the est of this one, and must be out by a minute.
-    fn is_cut_by(self, number: usize, lot: &Lot, minute: u16) -> bool
-        ensures { result ≡ in_cut self.entry.number (lot_at self.entry.table.lots.now self.entry.number).est minute number lot.now }
+    fn lot(self) -> Lot
+        ensures { result ≡ lot_at self.entry.table.lots.now self.entry.number }
     {
-        let est = self.table.lots[self.number].est;
-        number != self.number && u32::from(est) < lot.ect() && lot.lct <= minute
+        self.table.lots[self.number]
     }
 
-    // The bound that a latest end puts on its est, or 0.
+    // Whether the lot of a number is another, cannot be out by the est of this one, and must be out by a minute.
+    fn is_in_cut(self, number: usize, lot: &Lot, minute: u16) -> bool
+        ensures { result ≡ in_cut self.entry.number (lot_at self.entry.table.lots.now self.entry.number).est minute number lot.now }
+    {
+        number != self.number && u32::from(self.lot().est) < lot.ect() && lot.lct <= minute
+    }
+
+    // The lots of which that holds.
+    fn cut(self, minute: u16) -> ArrayVec<Lot, MAX_LOTS>
+        ensures cut { result.items ≡ the_cut self.entry.table.lots.now self.entry.number minute }
+        ensures fewer { length result.items < length self.entry.table.lots.now }
+    {
+        chosen(
+            self.table,
+            |number, lot| self.is_in_cut(number, lot, minute),
+        )
+    }
+
+    // The bound that a latest end puts on its est. 0 where it puts none, which is no bound, and so no `Option`.
     fn bound_at(self, minute: u16) -> u16
         ensures { result ≡ end_bound self.entry.table.capacity self.entry.table.lots.now self.entry.number minute }
     {
-        let mut cut = chosen(
-            self.table,
-            |number, lot| self.is_cut_by(number, lot, minute),
-        );
+        let mut cut = self.cut(minute);
         if !has_end(cut.as_slice(), minute) {
             return 0;
         }
         let least = least_end(cut.as_slice());
-        add_stand_in(&mut cut, &self.table.lots[self.number], minute);
+        add_stand_in(&mut cut, &self.lot(), minute);
         let with_stand_in = Table {
             capacity: self.table.capacity,
             lots: cut.as_slice(),
@@ -104,18 +117,18 @@ impl Candidate<'_> {
     }
 }
 
-// The new bounds of the lots, by number. Each rule loops over its lots and their numbers itself.
+// The new bounds of the lots, by number. The loop over the lots with their numbers is a rule of the project for each of the two rules that raise starts.
 fn bounds_of(table: Table<'_>, cuts: &[Cut]) -> [u16; MAX_LOTS]
     ensures { (i : ℕ) → i < length table.entry.lots.now → slice_index result i ≡ greatest_end_bound table.entry.capacity table.entry.lots.now i (cut_ends cuts.now) }
 {
     let mut bounds = [0; MAX_LOTS];
-    for (number, _lot) in table.lots.iter().enumerate() {
+    for (number, _) in table.lots.iter().enumerate() {
         bounds[number] = Candidate { table, number }.bound(cuts);
     }
     bounds
 }
 
-#[derive(Clone, Copy, Debug)]
+#[derive(Clone, Copy, Default, Debug)]
 pub struct NotFirst;
 
 impl Rule for NotFirst {

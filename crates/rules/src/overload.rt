@@ -10,7 +10,7 @@ use crate::cuts::{Cut, cuts_of};
 use lots::{Lot, Refusal, Table};
 use rule::{Rule, Verdict};
 
-#[derive(Clone, Copy, Debug)]
+#[derive(Clone, Copy, Default, Debug)]
 pub struct Overload;
 
 // Whether the lots that must be out by a minute are overfull.
@@ -24,7 +24,7 @@ fn overfull_by(table: Table<'_>, minute: u16) -> bool
     })
 }
 
-// Whether that holds of the latest end of some cut.
+// Whether, for some cut, the lots that must be out by its latest end are overfull.
 fn some_overfull(table: Table<'_>, cuts: &[Cut]) -> bool
     ensures { result ≡ overfull_at_some table.entry.capacity table.entry.lots.now (cut_ends cuts.now) }
 {

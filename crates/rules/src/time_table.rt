@@ -8,7 +8,7 @@ ghost use Rattle.rules.specs.Laws.TimeTables.{time_table_sound};
 use lots::{HORIZON, Lot, MAX_LOTS, Refusal, Table};
 use rule::{Rule, Verdict, raise};
 
-// How many minutes the week has.
+// How many minutes the week has. By `as`, since a constant can call no `From`.
 const MINUTES: usize = HORIZON as usize;
 
 // The trays that the lot holds at a minute, whenever it starts.
@@ -36,7 +36,7 @@ impl<'a> Loads<'a> {
     {
         let mut by_minute = [0; MINUTES];
         for lot in table.lots {
-            // By number: a lot may have no fixed part, its lst past its ect, and no slice runs from the one to the other.
+            // By number: a lot may have no fixed part, its lst past its ect, and then there is no part of a slice to go through.
             for minute in u32::from(lot.lst())..lot.ect() {
                 by_minute[minute as usize] += lot.c;
             }
@@ -53,7 +53,7 @@ impl<'a> Loads<'a> {
             .any(|load| *load > self.table.capacity)
     }
 
-    // The minute after the last at which the lot, on its first run, passes the capacity beside the others, or 0.
+    // The minute after the last at which the lot, on its first run, passes the capacity beside the others. 0 where none does, which is no bound, and so no `Option`.
     fn bound(&self, lot: Lot) -> u16
         requires { LawfulLot max_capacity lot }
         ensures { result ≡ after_last (blocked_under self.now.by_minute self.now.table.capacity lot) (earliest_end lot) }
@@ -72,7 +72,7 @@ impl<'a> Loads<'a> {
         ensures { (j : ℕ) → j < length self.now.table.lots.now → slice_index result j ≡ bound_of self.now.table.capacity self.now.table.lots.now j }
     {
         let mut bounds = [0; MAX_LOTS];
-        // A loop over the elements with their numbers is a rule of the project here: not_first.rt has its twin.
+        // The loop over the lots with their numbers is a rule of the project for each of the two rules that raise starts.
         for (number, lot) in self.table.lots.iter().enumerate() {
             bounds[number] = self.bound(*lot);
         }
@@ -80,7 +80,7 @@ impl<'a> Loads<'a> {
     }
 }
 
-#[derive(Clone, Copy, Debug)]
+#[derive(Clone, Copy, Default, Debug)]
 pub struct TimeTable;
 
 impl Rule for TimeTable {

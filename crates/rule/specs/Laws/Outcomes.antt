@@ -1,5 +1,5 @@
 -- What holds of an outcome, made weaker.
-use Rattle.std.specs.Prelude.{◌≡◌, ℕ, List, Ok, Err, Result, ◌≢◌, refl}
+use Rattle.std.specs.Prelude.{◌≡◌, ℕ, Bool, true, false, cond, List, Ok, Err, Result, ◌≢◌, refl}
 use Rattle.std.proofs.Common.{sym, ap, subst, ◌∙◌}
 use Rattle.lots.specs.Tables.{Lawful}
 use Rattle.rule.specs.Meanings.{Meaning, Outcome, dead, to, Gives, Dies, Sound, Applied}
@@ -31,6 +31,15 @@ applied_lawful m p C T U (Ok Still) ok a = subst (Lawful C) (sym a.2) ok
 applied_lawful m p C T U (Ok Moved) ok a = (gives_at (m C T) _ U a.1 (p.lawful C T ok)).0
 applied_lawful m p C T U (Ok Dead) ok a = subst (Lawful C) (sym a.2) ok
 applied_lawful m p C T U (Err e) ok a = absurd (a.0 ok)
+
+-- what holds of both ways holds of the choice
+pub gives_either : (o : Outcome) (P : List Lot → Type 0) (b : Bool) → Gives o P → Gives (cond b dead o) P
+gives_either o P true h = tt
+gives_either o P false h = h
+
+pub dies_either : (o : Outcome) (P : Type 0) (b : Bool) → (b ≡ true → P) → Dies o P → Dies (cond b dead o) P
+dies_either o P true d h = d refl
+dies_either o P false d h = h
 
 -- after a sound rule no rule refuses the table
 pub no_refusal : (m n : Meaning) → Sound m → (C : ℕ) (T U V : List Lot) (v : Verdict) (e : Refusal) → (v ≢ Dead) → Applied m C T U (Ok v) → Applied n C U V (Err e) → ⊥

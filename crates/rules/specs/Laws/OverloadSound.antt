@@ -1,5 +1,5 @@
 -- Overload finds no schedule where it is dead.
-use Rattle.std.specs.Prelude.{◌≡◌, ℕ, Bool, true, false, cond, ◌||◌, List, [], ◌∷◌, ◌==◌, nat_le, refl}
+use Rattle.std.specs.Prelude.{◌≡◌, ℕ, Bool, true, cond, ◌||◌, List, [], ◌∷◌, ◌==◌, nat_le, refl}
 use Rattle.std.proofs.Common.{inl, inr, sym, ap, subst, ◌∙◌, arith}
 use Rattle.std.specs.List.{list_any}
 use Rattle.std.proofs.lemmas.Bool.{ltb-true, or_cases, or_left, or_right, eqb-true, eq-eqb, false≢true}
@@ -7,7 +7,8 @@ use Rattle.std.proofs.lemmas.Bool.Decides.{same_from_decides}
 use Rattle.lots.specs.declared.Lot.{Lot}
 use Rattle.elastic.specs.Profile.{overflow, has}
 use Rattle.elastic.proofs.Soundness.{overflow_of_schedulable}
-use Rattle.rule.specs.Meanings.{Narrower, SameLaw, Keeps, Hopeless, Sound, Gives, Dies, dead, to}
+use Rattle.rule.specs.Meanings.{Narrower, SameLaw, Keeps, Hopeless, Sound, dead, to}
+use Rattle.rule.specs.Laws.Outcomes.{gives_either, dies_either}
 use Rattle.rule.specs.Laws.Tables.{same_work_refl, narrower_refl}
 use Rattle.rules.specs.Chosen.{chosen, overfull}
 use Rattle.rules.specs.Cuts.{ends_of, cut_ends, CutsOf}
@@ -27,20 +28,12 @@ some_hopeless C T (t ∷ ts) h = elim (or_cases (overfull C (due t T)) (some_ove
   | inr more ↦ some_hopeless C T ts more
 ]
 
-given : (b : Bool) (T : List Lot) (P : List Lot → Type 0) → P T → Gives (cond b dead (to T)) P
-given true T P h = tt
-given false T P h = h
-
-died : (b : Bool) (T : List Lot) (P : Type 0) → (b ≡ true → P) → Dies (cond b dead (to T)) P
-died true T P h = h refl
-died false T P h = tt
-
 pub overload_sound : Sound overload
 overload_sound = record {
-  lawful = λ C T ok. given (some_overfull C T (ends_of T)) T (SameLaw C T) (ok, same_work_refl T);
-  narrows = λ C T ok. given (some_overfull C T (ends_of T)) T (Narrower T) (narrower_refl T);
-  keeps = λ C T ok. given (some_overfull C T (ends_of T)) T (Keeps C T) (λ ss s. s);
-  dies_rightly = λ C T ok. died (some_overfull C T (ends_of T)) T (Hopeless C T) (some_hopeless C T (ends_of T));
+  lawful = λ C T ok. gives_either (to T) (SameLaw C T) (some_overfull C T (ends_of T)) (ok, same_work_refl T);
+  narrows = λ C T ok. gives_either (to T) (Narrower T) (some_overfull C T (ends_of T)) (narrower_refl T);
+  keeps = λ C T ok. gives_either (to T) (Keeps C T) (some_overfull C T (ends_of T)) (λ ss s. s);
+  dies_rightly = λ C T ok. dies_either (to T) (Hopeless C T) (some_overfull C T (ends_of T)) (some_hopeless C T (ends_of T)) tt;
 }
 
 -- only which minutes there are matters, not how often or in which order

@@ -1,12 +1,13 @@
 -- The rule time-table loses no schedule.
-use Rattle.std.specs.Prelude.{◌≡◌, ℕ, ◌<◌, ◌≤◌, Bool, true, false, cond, List, length, nat_lt, slice_index, refl}
+use Rattle.std.specs.Prelude.{◌≡◌, ℕ, ◌<◌, ◌≤◌, true, List, length, nat_lt, slice_index}
 use Rattle.std.proofs.Common.{sym, ◌∙◌, arith}
 use Rattle.std.proofs.lemmas.Bool.{true≢false, le-ltb}
 use Rattle.lots.specs.Limits.{horizon}
 use Rattle.lots.specs.Schedules.{Schedule}
 use Rattle.lots.specs.Tables.{ect, lot_at}
 use Rattle.lots.specs.declared.Lot.{Lot}
-use Rattle.rule.specs.Meanings.{Outcome, Sound, Gives, Dies, Hopeless, dead}
+use Rattle.rule.specs.Meanings.{Sound, Hopeless}
+use Rattle.rule.specs.Laws.Outcomes.{gives_either, dies_either}
 use Rattle.rule.proofs.Raises.{raise_lawful, raise_narrows, raise_keeps, raise_dies}
 use Rattle.rules.specs.TimeTable.{fixed_load, some_below, blocked, bound_of, time_table}
 use Rattle.rules.specs.Laws.Searches.{some_none, after_last_le}
@@ -17,15 +18,6 @@ bound_kept C T ss s j h = after_last_le (blocked C T j) (ect (lot_at T j)) (slic
 
 passing_hopeless : (C : ℕ) (T : List Lot) → some_below (λ t. nat_lt C (fixed_load T t)) horizon ≡ true → Hopeless C T
 passing_hopeless C T e ss s = true≢false (sym e ∙ some_none (λ t. nat_lt C (fixed_load T t)) horizon (λ t h. le-ltb C (fixed_load T t) (omega (arith, load_of_fixed t T ss s.placed, s.within t))))
-
--- what holds of both ways holds of the choice
-gives_either : (o : Outcome) (P : List Lot → Type 0) (b : Bool) → Gives o P → Gives (cond b dead o) P
-gives_either o P true h = tt
-gives_either o P false h = h
-
-dies_either : (o : Outcome) (P : Type 0) (b : Bool) → (b ≡ true → P) → Dies o P → Dies (cond b dead o) P
-dies_either o P true d h = d refl
-dies_either o P false d h = h
 
 pub time_table_sound : Sound time_table
 time_table_sound = record {

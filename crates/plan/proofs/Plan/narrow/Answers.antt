@@ -1,8 +1,8 @@
 use Rattle.std.proofs.Common.{Ok, arith}
 use Rattle.std.proofs.lemmas.Grind.{common_steps}
-use Rattle.plan.specs.Held.{held}
 use Rattle.plan.proofs.Histories.{narrow_follows}
 use Rattle.plan.proofs.Tables.{narrowed_lawful}
+use Rattle.plan.specs.Tables.{Table}
 use Rattle.plan.proofs.Plan.narrow.Goals as goal
 
 pub returns-in_err-place-clause-follows : goal.returns-in_err-place-clause-follows
@@ -15,8 +15,8 @@ returns-in_err-tighter-clause-follows c =
 
 pub invariant_of-self-2 : goal.invariant_of-self-2
 invariant_of-self-2 c =
-    let plan = c.args.self.now in
-    record { lawful = narrowed_lawful c.args.lot c.args.from c.args.to (held plan) _ (grind (arith, common_steps)) plan.lawful }
+    let table : Table = record { capacity = c.self.inside.capacity; lots = c.self.inside.lots.items } in
+    narrowed_lawful c.args.lot c.args.from c.args.to table _ (grind (arith, common_steps)) c.self.invariant
 
 pub returns-clause-follows : goal.returns-clause-follows
 returns-clause-follows c =

@@ -1,7 +1,6 @@
 use Rattle.std.proofs.Common.{add-one, arith}
 use Rattle.std.proofs.lemmas.Grind.{common_steps}
 use Rattle.rule.specs.Settled.{none}
-use Rattle.lots.proofs.Tables.{table_lawful}
 use Rattle.rule.proofs.Chain.{moves_more, settled_still, settled_moved}
 use Rattle.rule.proofs.Slack.{slack_fits, moved_falls}
 use Rattle.rule.proofs.fixpoint.settle.Goals as goal
@@ -9,12 +8,12 @@ use Rattle.rule.proofs.fixpoint.settle.Goals.{then-moves-eq0, else-moves-eq0}
 
 pub unwrap-before-requires : goal.unwrap-before-requires
 unwrap-before-requires g c =
-    let few = (table_lawful c.in_ok-new.field-0 c.in_ok-new.ensures).few_lots in
+    let few = c.in_ok-new.ensures.2.few_lots in
     grind (arith, common_steps)
 
 pub loop-moves-init : goal.loop-moves-init
 loop-moves-init g c =
-    let ok = table_lawful c.in_ok-new.field-0 c.in_ok-new.ensures in record {
+    let ok = c.in_ok-new.ensures.2 in record {
       lawful_before = ok;
       lawful = ok;
       moved = none;

@@ -17,5 +17,5 @@ pub loop-lot-preserved : goal.loop-lot-preserved
 loop-lot-preserved c =
     subst (Profiles _) (sym (take_more _ _ _ c.loop-lot-test.true)) (c.add.ensures _ c.loop-lot.invariant)
 
-pub returns : goal.returns
-returns c = subst (Profiles _) (take_all _ _ c.loop-lot-test.false) c.loop-lot.invariant
+pub invariant_of-result : goal.invariant_of-result
+invariant_of-result c = record { profiles = subst (Profiles _) (take_all _ _ c.loop-lot-test.false) c.loop-lot.invariant }

@@ -3,4 +3,4 @@ use Rattle.elastic.specs.Points.{Profiles}
 use Rattle.elastic.proofs.profile.Profile.of.Given as goal
 
 abbrev pub invariant-loop-lot : goal.invariant-loop-lot
-invariant-loop-lot l = Profiles l.profile.points (take l.lot-index l.table.lots.now)
+invariant-loop-lot l = Profiles l.points.row (take l.lot-index l.table.lots.now)

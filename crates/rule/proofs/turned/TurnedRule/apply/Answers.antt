@@ -4,21 +4,20 @@ use Rattle.rule.specs.Turned.{turned}
 use Rattle.rule.specs.Laws.Mirror.{turned_applied}
 use Rattle.rule.specs.Laws.Outcomes.{applied_lawful}
 use Rattle.rule.specs.Laws.Turns.{lawful_week, turn_lawful}
-use Rattle.lots.proofs.Tables.{table_lawful}
 use Rattle.rule.proofs.turned.TurnedRule.apply.Goals as goal
 
 pub turn-requires : goal.turn-requires
-turn-requires g c = lawful_week c.args.capacity _ (table_lawful c.in_ok-new.field-0 c.in_ok-new.ensures)
+turn-requires g c = lawful_week c.args.capacity _ c.in_ok-new.ensures.2
 
 pub turn-requires-2 : goal.turn-requires-2
 turn-requires-2 g c =
-    let ok = turn_lawful c.args.capacity _ (table_lawful c.in_ok-new.field-0 c.in_ok-new.ensures) in
+    let ok = turn_lawful c.args.capacity _ c.in_ok-new.ensures.2 in
     let a = rw c.turn.ensures at c.apply-answer.ensures in
     lawful_week c.args.capacity _ (applied_lawful _ (g.met.X.Rule.sound c.args.self.now.rule) _ _ _ _ ok a)
 
 pub returns : goal.returns
 returns g c =
-    let ok = table_lawful c.in_ok-new.field-0 c.in_ok-new.ensures in
+    let ok = c.in_ok-new.ensures.2 in
     let a = rw c.turn.ensures at c.apply-answer.ensures in
     let m = turned (g.X.Rule.meaning c.args.self.now.rule) in
     subst (λ V. Applied m c.args.capacity c.args.lots.now V c.apply-answer.result) (sym c.turn-2.ensures)

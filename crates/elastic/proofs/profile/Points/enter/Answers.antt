@@ -2,7 +2,7 @@ use Rattle.std.proofs.Common.{◌<◌, length, sym, subst}
 use Rattle.std.specs.Cmp.{nat_cmp_total}
 use Rattle.elastic.specs.Points.{max_points}
 use Rattle.elastic.proofs.Points.{entered_by_put, entered_by_alter, small_there}
-use Rattle.elastic.proofs.profile.Profile.enter.Goals as goal
+use Rattle.elastic.proofs.profile.Points.enter.Goals as goal
 
 pub alter-requires : goal.alter-requires
 alter-requires c =

@@ -1,7 +1,7 @@
 use Rattle.std.proofs.Common.{◌<◌, length, take}
 use Rattle.std.specs.Cmp.{nat_cmp_total}
 use Rattle.elastic.proofs.Points.{taken_altered, rising_altered}
-use Rattle.elastic.proofs.profile.Profile.alter.Goals as goal
+use Rattle.elastic.proofs.profile.Points.alter.Goals as goal
 
 pub invariant_of-row : goal.invariant_of-row
 invariant_of-row c =
