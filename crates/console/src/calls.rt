@@ -26,7 +26,7 @@ pub fn answer(heap: Global, line: &[u8]) -> Result<Option<Answer>, AllocError>
     }
 }
 
-// Makes the call that the first word names.
+// Makes the call that the first word names. Arms, since the calls differ in what they read and answer.
 fn call(heap: Global, line: &[u8]) -> Result<Answer, Fault>
     ensures { MatchResult result (Answers (pieces space line.now)) (Faults (pieces space line.now)) }
 {

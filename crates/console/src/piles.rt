@@ -41,7 +41,7 @@ impl Rule for Base {
     ghost sound = { λ x. base_sound x };
 
     fn apply(&self, capacity: u16, lots: &mut [Lot]) -> Result<Verdict, Refusal> {
-        // Arms: a function may not hand out a rule behind a `dyn`.
+        // Arms: a `&dyn Rule` that is chosen by the same four is no plainer, and no function may hand one out.
         match *self {
             Base::Idle => Idle.apply(capacity, lots),
             Base::Overload => Overload.apply(capacity, lots),

@@ -7,7 +7,8 @@ use crate::row::{Keyed, Place, Row};
 use std::marker::Model;
 
 // At most `N` elements, which lie in the value itself, in the strict order of their keys. An array and a length,
-// since an `ArrayVec` lends none of its free cells to a row.
+// since an `ArrayVec` lends none of its free cells to a row, and with its own `insert` the search and the order would
+// be written twice.
 #[derive(Drop)]
 pub struct ArrayRow<E: Keyed, const N: usize> {
     pub(crate) cells: [E; N],
@@ -48,7 +49,7 @@ impl<E: Keyed + Copy + Default, const N: usize> ArrayRow<E, N> {
         }
     }
 
-    // The elements, in their order.
+    // The elements, in their order. The order is said here and at `put`, since a caller sees the list and no invariant.
     pub fn as_slice(&self) -> &[E]
         ensures row { result.now ≡ self.now }
         ensures ascends { (o : IsTotalOrder E.Key.Ord.cmp) → Ascending o E.keyed self.now }

@@ -24,7 +24,7 @@ pub fn overflow_of(table: Table<'_>) -> (u32, usize)
     (profile.overflow(), profile.len())
 }
 
-// The overflow and the number of points of any lots and capacity. It refuses those that are no lawful table.
+// The overflow and the number of points of any lots and capacity, apart, since it refuses those that are no lawful table.
 pub fn overflow(capacity: u16, lots: &[Lot]) -> Result<(u32, usize), Refusal>
     ensures answer { Answered capacity lots.now result }
     ensures points { FewPoints lots.now result }
@@ -37,6 +37,7 @@ pub fn overflow(capacity: u16, lots: &[Lot]) -> Result<(u32, usize), Refusal>
 mod tests {
     use super::*;
 
+    // Field by field: a constant can call no function.
     const FULL: Lot = Lot {
         est: 4,
         lct: 6,

@@ -79,7 +79,8 @@ impl Keyed for Point {
     }
 }
 
-// The points of a list of lots.
+// The points of a list of lots. How small their changes are, and that a lot is lawful, its functions ask for: a type
+// that carried either would be made and taken apart in these lines alone.
 #[derive(Drop)]
 struct Points {
     row: ArrayRow<Point, MAX_POINTS>,

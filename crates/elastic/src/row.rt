@@ -42,6 +42,7 @@ fn insert<E: Copy>(cells: &mut [E], len: usize, i: usize, element: E)
     cells[i..len + 1].rotate_right(1);
 }
 
+// That a row ascends is asked of it where it matters, and is no invariant: whoever lends cells may lend any.
 impl<'a, E: Keyed + Copy> Row<'a, E> {
     // The row of the first `len` of these cells.
     pub fn over(cells: &'a mut [E], len: usize) -> Row<'a, E>

@@ -65,7 +65,7 @@ impl Lot {
     }
 }
 
-// Whether capacity and lots are a lawful table.
+// Whether capacity and lots are a lawful table. They come apart, since only what is lawful is a `Table`.
 pub fn is_lawful(capacity: u16, lots: &[Lot]) -> bool
     ensures { IsTrue result ↔ Lawful capacity lots.now }
 {
@@ -114,6 +114,7 @@ impl From<Refusal> for u8 {
 mod tests {
     use super::*;
 
+    // Field by field: a constant can call no function.
     const WEEK: Lot = Lot {
         est: 0,
         lct: HORIZON,

@@ -1,4 +1,5 @@
-// The calls on a plan. A refused call alters nothing.
+// The calls on a plan. A refused call alters nothing. Each says apart what it answers and that it follows the book,
+// since the two are read by different readers.
 ghost use Rattle.std.specs.Prelude.{◌≡◌, []};
 ghost use Rattle.plan.specs.Tables.{empty};
 ghost use Rattle.plan.specs.Calls.{Opened, Admitted, Narrowed, Tightened};
@@ -81,6 +82,7 @@ impl Default for Plan {
 mod tests {
     use super::*;
 
+    // Field by field: a constant can call no function.
     const WEEK: Lot = Lot {
         est: 0,
         lct: 10_080,

@@ -19,6 +19,7 @@ impl<X: Rule, Y: Rule> Rule for Both<X, Y> {
     ghost sound = { λ x. both_sound _ _ (X.Rule.sound x.first) (Y.Rule.sound x.second) };
 
     fn apply(&self, capacity: u16, lots: &mut [Lot]) -> Result<Verdict, Refusal> {
+        // Not as in `settle`: here the rules themselves ask whether the table is lawful, and too many lots are not copied.
         let Ok(before) = ArrayVec::<Lot, MAX_LOTS>::try_from(&*lots) else {
             return Err(Refusal::Unlawful);
         };

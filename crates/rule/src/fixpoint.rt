@@ -7,6 +7,7 @@ use arrayvec::ArrayVec;
 use lots::{Lot, MAX_LOTS, Refusal, Table};
 
 // Applies the rule until it is still or dead, and counts the applications. Dead puts back the windows from before.
+// The lots are lent to be written, so they come with the capacity and not as a `Table`.
 pub fn settle<R: Rule>(rule: &R, capacity: u16, lots: &mut [Lot]) -> Result<(Verdict, u32), Refusal>
     ensures { Settles (R.meaning rule.now) capacity lots.old lots.new result }
 {
@@ -38,6 +39,7 @@ mod tests {
     use super::*;
     use crate::{Both, Idle, Turned, raise};
 
+    // Field by field: a constant can call no function.
     const LOT: Lot = Lot {
         est: 2,
         lct: 9,

@@ -16,7 +16,7 @@ pub(crate) fn chosen<F: Fn(usize, &Lot) -> bool>(
     ensures { (p : ℕ → AnyLot → Bool) → Tests (F.post test) p → result.items ≡ those_of p 0 table.entry.lots.now }
 {
     let mut chosen = ArrayVec::new();
-    // A loop, since what the library collects asks for an allocator.
+    // A loop: `from_iter` asks for an allocator, and `extend` gives a `Result`, though the lots of a table always fit.
     for (number, lot) in table.lots.iter().enumerate() {
         if test(number, lot) {
             chosen.push(*lot);

@@ -20,7 +20,7 @@ fn earliest_start(lots: &[Lot]) -> u16
     lots.iter().map(|lot| lot.est).min().unwrap_or(0)
 }
 
-// The least ect, and 0 without lots. One function for both, by a key, would be longer than the two.
+// The least ect, and 0 without lots, as it is defined. One function for both, by a key, would be longer than the two.
 fn least_end(lots: &[Lot]) -> u32
     ensures { result ≡ least_ect lots.now }
 {
@@ -106,7 +106,7 @@ impl Candidate<'_> {
         }
     }
 
-    // The greatest bound that the latest ends of the cuts put on its est, or 0.
+    // The greatest bound that the latest ends of the cuts put on its est. 0 without cuts, which is no bound, and so no `Option`.
     fn bound(self, cuts: &[Cut]) -> u16
         ensures { result ≡ greatest_end_bound self.entry.table.capacity self.entry.table.lots.now self.entry.number (cut_ends cuts.now) }
     {
@@ -121,6 +121,7 @@ impl Candidate<'_> {
 fn bounds_of(table: Table<'_>, cuts: &[Cut]) -> [u16; MAX_LOTS]
     ensures { (i : ℕ) → i < length table.entry.lots.now → slice_index result i ≡ greatest_end_bound table.entry.capacity table.entry.lots.now i (cut_ends cuts.now) }
 {
+    // An array: 0 past the last lot is no bound.
     let mut bounds = [0; MAX_LOTS];
     for (number, _) in table.lots.iter().enumerate() {
         bounds[number] = Candidate { table, number }.bound(cuts);

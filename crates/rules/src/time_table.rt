@@ -22,7 +22,7 @@ fn fixed_at(lot: Lot, minute: u32) -> u16
     }
 }
 
-// The trays that the fixed parts of all lots of a table hold, by minute.
+// The trays that the fixed parts of all lots of a table hold, one number for each minute of the week.
 #[derive(Drop)]
 struct Loads<'a> {
     table: Table<'a>,
@@ -53,7 +53,8 @@ impl<'a> Loads<'a> {
             .any(|load| *load > self.table.capacity)
     }
 
-    // The minute after the last at which the lot, on its first run, passes the capacity beside the others. 0 where none does, which is no bound, and so no `Option`.
+    // The minute after the last at which the lot, on its first run, passes the capacity beside the others. 0 where none
+    // does, which is no bound, and so no `Option`. The lot is given alone, so that it is lawful is asked.
     fn bound(&self, lot: Lot) -> u16
         requires { LawfulLot max_capacity lot }
         ensures { result ≡ after_last (blocked_under self.now.by_minute self.now.table.capacity lot) (earliest_end lot) }
@@ -71,6 +72,7 @@ impl<'a> Loads<'a> {
     fn bounds(&self) -> [u16; MAX_LOTS]
         ensures { (j : ℕ) → j < length self.now.table.lots.now → slice_index result j ≡ bound_of self.now.table.capacity self.now.table.lots.now j }
     {
+        // An array: 0 past the last lot is no bound.
         let mut bounds = [0; MAX_LOTS];
         // The loop over the lots with their numbers is a rule of the project for each of the two rules that raise starts.
         for (number, lot) in self.table.lots.iter().enumerate() {
