@@ -1,3 +1,4 @@
+mod Asked
 mod Numerals
 mod Pieces
 mod Texts

@@ -1,5 +1,5 @@
 -- A line that writes a call is ASCII, and so it is text.
-use Rattle.std.proofs.Common.{ℕ, ◌<◌, List, [], ◌∷◌, codes, IsUtf8, IsAscii, subst, inl, inr, arith, rules}
+use Rattle.std.proofs.Common.{ℕ, ◌<◌, List, [], ◌∷◌, codes, IsUtf8, IsAscii, subst, arith, rules}
 use Rattle.std.specs.List.{AllByRecursion, AllZip, join_with_byte}
 use Rattle.std.proofs.ByRecursion.{IsAscii-from_all}
 use Rattle.std.proofs.lemmas.Fmt.{IsAscii-from_digits}
@@ -7,7 +7,7 @@ use Rattle.std.proofs.lemmas.List.Splits.{join_with_byte-slice_split}
 use Rattle.std.proofs.lemmas.Str.{IsAscii-append, IsUtf8-from_ascii}
 use Rattle.std.proofs.lemmas.Str.Ascii.{IsAscii-nil, IsAscii-cons}
 use Rattle.lots.specs.declared.Lot.{Lot}
-use Rattle.console.specs.Lines.{Table, OverflowCall, RuleCall, Known}
+use Rattle.console.specs.Lines.{Name, overflow_call, rule_call, open_call, admit_call, narrow_call, tighten_call, windows_call, word_of, TableForm, RuleForm, NumbersForm, Asks, Known}
 use Rattle.console.specs.Piles.{base_word, pile_word}
 use Rattle.console.specs.declared.piles.Base.{Base}
 use Rattle.console.specs.declared.piles.Base.TheVariants as base
@@ -49,22 +49,38 @@ pile_ascii (pile.Turned b) =
     IsAscii-append (codes "turned(") _ (IsAscii-from_all (codes "turned(") (search rules)) after
 pile_ascii pile.House = IsAscii-from_all (codes "house") (search rules)
 
-table_ascii : (words : List (List ℕ)) (C : ℕ) (T : List Lot) → Table words C T → AllByRecursion IsAscii words
+table_ascii : (words : List (List ℕ)) (C : ℕ) (T : List Lot) → TableForm words C T → AllByRecursion IsAscii words
 table_ascii [] C T is = tt
 table_ascii (word ∷ words) C T is = (number_ascii word C is.0, ascii_from_each Cell cell_ascii words T is.1)
 
-overflow_ascii : (words : List (List ℕ)) (C : ℕ) (T : List Lot) → OverflowCall words C T → AllByRecursion IsAscii words
-overflow_ascii [] C T is = tt
-overflow_ascii (name ∷ words) C T is = (rw is.0 (IsAscii-from_all (codes "overflow") (search rules)), table_ascii words C T is.1)
-
-rule_ascii : (words : List (List ℕ)) (p : Pile) (C : ℕ) (T : List Lot) → RuleCall words p C T → AllByRecursion IsAscii words
+rule_ascii : (words : List (List ℕ)) (p : Pile) (C : ℕ) (T : List Lot) → RuleForm words p C T → AllByRecursion IsAscii words
 rule_ascii [] p C T is = tt
-rule_ascii (name ∷ []) p C T is = (rw is.0 (IsAscii-from_all (codes "rule") (search rules)), tt)
-rule_ascii (name ∷ word ∷ words) p C T is = (rw is.0 (IsAscii-from_all (codes "rule") (search rules)), (rw is.1 (pile_ascii p), table_ascii words C T is.2))
+rule_ascii (word ∷ words) p C T is = (rw is.0 (pile_ascii p), table_ascii words C T is.1)
+
+name_ascii : (n : Name) → IsAscii (word_of n)
+name_ascii overflow_call = IsAscii-from_all (codes "overflow") (search rules)
+name_ascii rule_call = IsAscii-from_all (codes "rule") (search rules)
+name_ascii open_call = IsAscii-from_all (codes "open") (search rules)
+name_ascii admit_call = IsAscii-from_all (codes "admit") (search rules)
+name_ascii narrow_call = IsAscii-from_all (codes "narrow") (search rules)
+name_ascii tighten_call = IsAscii-from_all (codes "tighten") (search rules)
+name_ascii windows_call = IsAscii-from_all (codes "windows") (search rules)
+
+numbers_ascii : (words : List (List ℕ)) (ns : List ℕ) → NumbersForm words ns → AllByRecursion IsAscii words
+numbers_ascii words ns is = ascii_from_each Number number_ascii words ns is
+
+asked_ascii : (n : Name) (words : List (List ℕ)) → Asks n words → AllByRecursion IsAscii words
+asked_ascii overflow_call words (C, T, is) = table_ascii words C T is
+asked_ascii rule_call words (p, C, T, is) = rule_ascii words p C T is
+asked_ascii open_call words (C, is) = numbers_ascii words _ is
+asked_ascii admit_call words (x, is) = numbers_ascii words _ is
+asked_ascii narrow_call words (i, a, b, is) = numbers_ascii words _ is
+asked_ascii tighten_call words (p, is) = rw is (pile_ascii p, tt)
+asked_ascii windows_call words is = rw is tt
 
 known_ascii : (words : List (List ℕ)) → Known words → AllByRecursion IsAscii words
-known_ascii words (inl asked) = overflow_ascii words asked.0 asked.1 asked.2
-known_ascii words (inr asked) = rule_ascii words asked.0 asked.1 asked.2 asked.3
+known_ascii [] known = tt
+known_ascii (word ∷ words) (n, named, asked) = (rw named (name_ascii n), asked_ascii n words asked)
 
 pub text_from_known : (line : List ℕ) → Known (pieces space line) → IsUtf8 line
 text_from_known line known = IsUtf8-from_ascii line (ascii_from_pieces space line (omega arith) (known_ascii (pieces space line) known))

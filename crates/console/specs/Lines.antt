@@ -1,16 +1,41 @@
 -- What lines ask, and what is answered to them.
-use Rattle.std.specs.Prelude.{◌≡◌, ℕ, ◌⊎◌, List, [], length, drop, Some, None, Ok, Err, vec_items, codes, Option, slice_index, slice_index_or}
+use Rattle.std.specs.Prelude.{◌≡◌, ℕ, ◌⊎◌, List, [], ◌∷◌, length, drop, Some, None, Ok, Err, vec_items, codes, Option, Result, slice_index, slice_index_or}
+use Rattle.std.specs.Global.{Vec}
 use Rattle.std.specs.List.{AllZip}
 use Rattle.lots.specs.declared.Lot.{Lot}
+use Rattle.lots.specs.declared.Refusal.{Refusal}
 use Rattle.elastic.specs.Overflow as elastic
 use Rattle.rule.specs.Meanings.{Applied}
+use Rattle.rule.specs.declared.Verdict.{Verdict}
+use Rattle.plan.specs.Calls.{Opened, Admitted, Narrowed, Tightened}
+use Rattle.plan.specs.Tables.{Table}
 use Rattle.console.specs.Piles.{pile_word, pile_meaning}
 use Rattle.console.specs.declared.piles.Pile.{Pile}
 use Rattle.console.specs.declared.answers.Answer.{Answer}
 use Rattle.console.specs.declared.answers.Answer.TheVariants as answer
 use Rattle.console.specs.declared.answers.Fault.{Fault}
 use Rattle.console.specs.declared.answers.Fault.TheVariants as fault
-use Rattle.console.specs.Syntax.{Number, Cell, pieces, space}
+use Rattle.console.specs.Syntax.{Number, Cell, lot_numbers, pieces, space}
+
+-- the calls, by name
+pub data Name : Type 0 where
+  overflow_call : Name
+  rule_call : Name
+  open_call : Name
+  admit_call : Name
+  narrow_call : Name
+  tighten_call : Name
+  windows_call : Name
+
+-- the first word of a line that makes the call
+abbrev pub word_of : Name → List ℕ
+word_of overflow_call = codes "overflow"
+word_of rule_call = codes "rule"
+word_of open_call = codes "open"
+word_of admit_call = codes "admit"
+word_of narrow_call = codes "narrow"
+word_of tighten_call = codes "tighten"
+word_of windows_call = codes "windows"
 
 -- why nothing was read: P holds where it is for the words, and nothing is said where it is for want of memory
 abbrev pub Unread : Fault → Type 0 → Type 0
@@ -19,35 +44,62 @@ Unread (fault.Refused refusal) P = ⊥
 Unread fault.Memory P = Unit {0}
 
 -- the words write the table of the capacity C and the lots T: `C CELL..`
-abbrev pub Table : List (List ℕ) → ℕ → List Lot → Type 0
-Table words C T = Number (slice_index_or words 0 []) C × AllZip Cell (drop 1 words) T
+abbrev pub TableForm : List (List ℕ) → ℕ → List Lot → Type 0
+TableForm words C T = Number (slice_index_or words 0 []) C × AllZip Cell (drop 1 words) T
 
--- the words ask for the overflow of a table: `overflow C CELL..`
-abbrev pub OverflowCall : List (List ℕ) → ℕ → List Lot → Type 0
-OverflowCall words C T = (slice_index_or words 0 [] ≡ codes "overflow") × Table (drop 1 words) C T
+-- `PILE C CELL..`
+abbrev pub RuleForm : List (List ℕ) → Pile → ℕ → List Lot → Type 0
+RuleForm words p C T = (slice_index_or words 0 [] ≡ pile_word p) × TableForm (drop 1 words) C T
 
--- the words ask for an application of a pile to a table: `rule PILE C CELL..`
-abbrev pub RuleCall : List (List ℕ) → Pile → ℕ → List Lot → Type 0
-RuleCall words p C T = (slice_index_or words 0 [] ≡ codes "rule") × (slice_index_or words 1 [] ≡ pile_word p) × Table (drop 2 words) C T
+-- the words are just these numbers
+abbrev pub NumbersForm : List (List ℕ) → List ℕ → Type 0
+NumbersForm words ns = AllZip Number words ns
+
+-- the words after the name write some arguments of the call
+abbrev pub Asks : Name → List (List ℕ) → Type 0
+Asks overflow_call words = (C : ℕ) × (T : List Lot) × TableForm words C T
+Asks rule_call words = (p : Pile) × (C : ℕ) × (T : List Lot) × RuleForm words p C T
+Asks open_call words = (C : ℕ) × NumbersForm words (C ∷ [])
+Asks admit_call words = (x : Lot) × NumbersForm words (lot_numbers x)
+Asks narrow_call words = (i from to : ℕ) × NumbersForm words (i ∷ from ∷ to ∷ [])
+Asks tighten_call words = (p : Pile) × (words ≡ pile_word p ∷ [])
+Asks windows_call words = words ≡ []
 
 -- the words write a call that the program knows
 abbrev pub Known : List (List ℕ) → Type 0
-Known words = ((C : ℕ) × (T : List Lot) × OverflowCall words C T) ⊎ ((p : Pile) × (C : ℕ) × (T : List Lot) × RuleCall words p C T)
+Known words = (n : Name) × (slice_index_or words 0 [] ≡ word_of n) × Asks n (drop 1 words)
 
--- what is answered to the words: `unknown` where they write no call, else what came of the call
-abbrev pub Answers : List (List ℕ) → Answer → Type 0
-Answers words (answer.Overflow left points) = (C : ℕ) × (T : List Lot) × OverflowCall words C T × elastic.Answered C T (Ok (left, points))
-Answers words (answer.Applied verdict lots) = (p : Pile) × (C : ℕ) × (T : List Lot) × RuleCall words p C T × Applied (pile_meaning p) C T (vec_items lots) (Ok verdict)
-Answers words (answer.Refused refusal) =
-    ((C : ℕ) × (T : List Lot) × OverflowCall words C T × elastic.Answered C T (Err refusal))
-    ⊎ ((p : Pile) × (C : ℕ) × (T : List Lot) × RuleCall words p C T × Applied (pile_meaning p) C T T (Err refusal))
-Answers words answer.Unknown = Known words → ⊥
+-- the answer that tells a result: what f makes of its value, or the refusal
+abbrev pub told : {X : Type 0} → (X → Answer) → Result X Refusal → Answer
+told f (Ok x) = f x
+told f (Err refusal) = answer.Refused refusal
 
--- why the words came to no answer of their own
-abbrev pub Faults : List (List ℕ) → Fault → Type 0
-Faults words fault.Unknown = Answers words answer.Unknown
-Faults words (fault.Refused refusal) = Answers words (answer.Refused refusal)
-Faults words fault.Memory = Unit {0}
+-- what is answered to a call, where the words after its name write the arguments, and the plan holds P before and Q after
+abbrev pub Answers : Name → List (List ℕ) → Table → Table → Answer → Type 0
+Answers overflow_call words P Q a =
+    (C : ℕ) × (T : List Lot) × TableForm words C T
+    × (r : Result (ℕ × ℕ) Refusal) × elastic.Answered C T r × (Q ≡ P) × (a ≡ told (λ n. answer.Overflow n.0 n.1) r)
+Answers rule_call words P Q a =
+    (p : Pile) × (C : ℕ) × (T : List Lot) × RuleForm words p C T
+    × (lots : Vec Lot) × (r : Result Verdict Refusal) × Applied (pile_meaning p) C T (vec_items lots) r × (Q ≡ P) × (a ≡ told (λ v. answer.Applied v lots) r)
+Answers open_call words P Q a = (C : ℕ) × NumbersForm words (C ∷ []) × (r : Result (Unit {0}) Refusal) × Opened C P Q r × (a ≡ told (λ _. answer.Done) r)
+Answers admit_call words P Q a = (x : Lot) × NumbersForm words (lot_numbers x) × (r : Result ℕ Refusal) × Admitted x P Q r × (a ≡ told (λ n. answer.Admitted n) r)
+Answers narrow_call words P Q a =
+    (i from to : ℕ) × NumbersForm words (i ∷ from ∷ to ∷ []) × (r : Result (Unit {0}) Refusal) × Narrowed i from to P Q r × (a ≡ told (λ _. answer.Done) r)
+Answers tighten_call words P Q a =
+    (p : Pile) × (words ≡ pile_word p ∷ []) × (v : Verdict) × (k : ℕ) × Tightened (pile_meaning p) P Q v k × (a ≡ answer.Tightened v k)
+Answers windows_call words P Q a = (words ≡ []) × (lots : Vec Lot) × (vec_items lots ≡ P.lots) × (Q ≡ P) × (a ≡ answer.Windows P.capacity lots)
+
+-- what is answered to the words of a line that write a call
+abbrev pub Made : List (List ℕ) → Table → Table → Answer → Type 0
+Made words P Q a = (n : Name) × (slice_index_or words 0 [] ≡ word_of n) × Answers n (drop 1 words) P Q a
+
+-- what came of some words: an answer that is right for them; or they write nothing known, or there was no memory, and the plan is as before
+abbrev pub Comes : (Right : Table → Table → Answer → Type 0) → (Unknown : Type 0) → Table → Table → Result Answer Fault → Type 0
+Comes Right Unknown P Q (Ok a) = Right P Q a
+Comes Right Unknown P Q (Err (fault.Refused refusal)) = Right P Q (answer.Refused refusal)
+Comes Right Unknown P Q (Err fault.Unknown) = Unknown × (Q ≡ P)
+Comes Right Unknown P Q (Err fault.Memory) = Q ≡ P
 
 -- the byte `#`
 abbrev pub hash : ℕ
@@ -57,7 +109,8 @@ hash = 35
 abbrev pub PassedOver : List ℕ → Type 0
 PassedOver line = (length line ≡ 0) ⊎ (slice_index line 0 ≡ hash)
 
--- what is answered to the line, whose words are parted by single spaces
-abbrev pub Answered : List ℕ → Option Answer → Type 0
-Answered line None = PassedOver line
-Answered line (Some a) = (PassedOver line → ⊥) × Answers (pieces space line) a
+-- what is answered to the line, whose words are parted by single spaces, where the plan holds P before and Q after
+abbrev pub Answered : List ℕ → Table → Table → Option Answer → Type 0
+Answered line P Q None = PassedOver line × (Q ≡ P)
+Answered line P Q (Some a) =
+    (PassedOver line → ⊥) × (Made (pieces space line) P Q a ⊎ ((Known (pieces space line) → ⊥) × (Q ≡ P) × (a ≡ answer.Unknown)))

@@ -5,7 +5,7 @@ use Rattle.lots.specs.Refusals.{refusal_number}
 use Rattle.lots.specs.declared.Lot.{Lot}
 use Rattle.rule.specs.Verdicts.{shown_verdict}
 use Rattle.console.specs.declared.answers.Answer.{Answer}
-use Rattle.console.specs.declared.answers.Answer.TheVariants.{Overflow, Applied, Refused, Unknown}
+use Rattle.console.specs.declared.answers.Answer.TheVariants.{Overflow, Applied, Done, Admitted, Tightened, Windows, Refused, Unknown}
 
 abbrev pub shown_cell : Lot → List ℕ
 shown_cell x = decimal x.est ++ (codes "," ++ (decimal x.lct ++ (codes "," ++ (decimal x.p ++ (codes "," ++ decimal x.c)))))
@@ -17,5 +17,9 @@ shown_cells T = flat_map (λ x. codes " " ++ shown_cell x) T
 abbrev pub shown_answer : Answer → List ℕ
 shown_answer (Overflow left points) = decimal left ++ (codes " " ++ decimal points)
 shown_answer (Applied verdict lots) = shown_verdict verdict ++ shown_cells (vec_items lots)
+shown_answer Done = codes "ok"
+shown_answer (Admitted number) = decimal number
+shown_answer (Tightened verdict applications) = shown_verdict verdict ++ (codes " " ++ decimal applications)
+shown_answer (Windows capacity lots) = decimal capacity ++ shown_cells (vec_items lots)
 shown_answer (Refused refusal) = codes "refused " ++ decimal (refusal_number refusal)
 shown_answer Unknown = codes "unknown"

@@ -46,6 +46,10 @@ pub record Number (w : List ℕ) (n : ℕ) : Type 0 where
   pub fits : n < 2 ^ 16
   pub value : n ≡ number_after 0 w
 
+-- the four numbers of a lot
+abbrev pub lot_numbers : Lot → List ℕ
+lot_numbers x = x.est ∷ x.lct ∷ x.p ∷ x.c ∷ []
+
 -- the word writes a lot: `est,lct,p,c`
 abbrev pub Cell : List ℕ → Lot → Type 0
-Cell w x = AllZip Number (pieces comma w) (x.est ∷ x.lct ∷ x.p ∷ x.c ∷ [])
+Cell w x = AllZip Number (pieces comma w) (lot_numbers x)

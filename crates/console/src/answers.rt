@@ -6,7 +6,7 @@ ghost use Rattle.console.specs.declared.answers.Fault.TheVariants.{Refused as re
 
 use lots::{Lot, Refusal};
 use rule::Verdict;
-use std::alloc::AllocFailed;
+use std::alloc::{AllocError, AllocFailed};
 use std::fmt;
 
 // The answer to a line. It is shown as the line that the program writes.
@@ -14,6 +14,10 @@ use std::fmt;
 pub enum Answer {
     Overflow { left: u32, points: usize },
     Applied { verdict: Verdict, lots: Vec<Lot> },
+    Done,
+    Admitted { number: usize },
+    Tightened { verdict: Verdict, applications: u32 },
+    Windows { capacity: u16, lots: Vec<Lot> },
     Refused(Refusal),
     Unknown,
 }
@@ -39,6 +43,16 @@ impl fmt::Display for Answer {
                 write!(f, "{verdict}")?;
                 write_cells(lots.as_slice(), f)
             }
+            Answer::Done => f.write_str("ok"),
+            Answer::Admitted { number } => write!(f, "{number}"),
+            Answer::Tightened {
+                verdict,
+                applications,
+            } => write!(f, "{verdict} {applications}"),
+            Answer::Windows { capacity, lots } => {
+                write!(f, "{capacity}")?;
+                write_cells(lots.as_slice(), f)
+            }
             Answer::Refused(refusal) => write!(f, "refused {}", u8::from(*refusal)),
             Answer::Unknown => f.write_str("unknown"),
         }
@@ -54,7 +68,7 @@ pub enum Fault {
     Memory,
 }
 
-// By hand, as the next: the clauses of the calls read what they give.
+// By hand, as the next two: the clauses of the calls read what they give.
 impl From<Refusal> for Fault {
     ghost from_gives = { λ refusal r. r ≡ refused_by refusal };
 
@@ -67,6 +81,14 @@ impl<T: Drop> From<AllocFailed<T>> for Fault {
     ghost from_gives = { λ _ r. r ≡ out_of_memory };
 
     fn from(_refused: AllocFailed<T>) -> Fault {
+        Fault::Memory
+    }
+}
+
+impl From<AllocError> for Fault {
+    ghost from_gives = { λ _ r. r ≡ out_of_memory };
+
+    fn from(_error: AllocError) -> Fault {
         Fault::Memory
     }
 }

@@ -1,24 +1,26 @@
 // Answers a line: reads the call that it writes, makes the call, and says what came of it.
-ghost use Rattle.std.specs.Prelude.{◌∷◌, IfOk, codes, MatchResult};
-ghost use Rattle.console.specs.Lines.{Answers, Faults, Answered};
+ghost use Rattle.std.specs.Prelude.{IfOk};
+ghost use Rattle.plan.specs.Tables.{Table};
+ghost use Rattle.console.specs.Lines.{overflow_call, rule_call, open_call, admit_call, narrow_call, tighten_call, windows_call, Known, Asks, Answers, Made, Comes, Answered};
 ghost use Rattle.console.specs.Syntax.{pieces, space};
 
 use crate::answers::{Answer, Fault};
 use crate::parts::Parts;
 use crate::piles::Pile;
-use crate::words::table;
+use crate::words::{lot, numbers, table};
+use plan::Plan;
 use rule::Rule;
 use std::alloc::{AllocError, Global};
 use std::str::from_utf8;
 
 // The answer to the line, or nothing where the line is empty or a comment.
-pub fn answer(heap: Global, line: &[u8]) -> Result<Option<Answer>, AllocError>
-    ensures { IfOk result (Answered line.now) }
+pub fn answer(heap: Global, plan: &mut Plan, line: &[u8]) -> Result<Option<Answer>, AllocError>
+    ensures { IfOk result (Answered line.now plan.old plan.new) }
 {
     if matches!(line.first(), None | Some(b'#')) {
         return Ok(None);
     }
-    match call(heap, line) {
+    match call(heap, plan, line) {
         Ok(answer) => Ok(Some(answer)),
         Err(Fault::Unknown) => Ok(Some(Answer::Unknown)),
         Err(Fault::Refused(refusal)) => Ok(Some(Answer::Refused(refusal))),
@@ -27,21 +29,26 @@ pub fn answer(heap: Global, line: &[u8]) -> Result<Option<Answer>, AllocError>
 }
 
 // Makes the call that the first word names. Arms, since the calls differ in what they read and answer.
-fn call(heap: Global, line: &[u8]) -> Result<Answer, Fault>
-    ensures { MatchResult result (Answers (pieces space line.now)) (Faults (pieces space line.now)) }
+fn call(heap: Global, plan: &mut Plan, line: &[u8]) -> Result<Answer, Fault>
+    ensures { Comes (Made (pieces space line.now)) (Known (pieces space line.now) → ⊥) plan.old plan.new result }
 {
     let text = from_utf8(line).map_err(|_| Fault::Unknown)?;
     let mut words = Parts::cut(text, ' ');
     match words.next() {
         Some("overflow") => overflow(heap, words),
         Some("rule") => rule(heap, words),
+        Some("open") => open(plan, words),
+        Some("admit") => admit(plan, words),
+        Some("narrow") => narrow(plan, words),
+        Some("tighten") => tighten(plan, words),
+        Some("windows") => windows(heap, plan, words),
         _ => Err(Fault::Unknown),
     }
 }
 
 // `overflow C CELL..`
 fn overflow(heap: Global, words: Parts<'_>) -> Result<Answer, Fault>
-    ensures { MatchResult result (Answers (codes "overflow" ∷ words.entry)) (Faults (codes "overflow" ∷ words.entry)) }
+    ensures { (P : Table) → Comes (Answers overflow_call words.entry) (Asks overflow_call words.entry → ⊥) P P result }
 {
     let (capacity, lots) = table(heap, words)?;
     let (left, points) = elastic::overflow(capacity, lots.as_slice())?;
@@ -50,10 +57,66 @@ fn overflow(heap: Global, words: Parts<'_>) -> Result<Answer, Fault>
 
 // `rule PILE C CELL..`
 fn rule(heap: Global, mut words: Parts<'_>) -> Result<Answer, Fault>
-    ensures { MatchResult result (Answers (codes "rule" ∷ words.entry)) (Faults (codes "rule" ∷ words.entry)) }
+    ensures { (P : Table) → Comes (Answers rule_call words.entry) (Asks rule_call words.entry → ⊥) P P result }
 {
     let pile: Pile = words.next().ok_or(Fault::Unknown)?.parse()?;
     let (capacity, mut lots) = table(heap, words)?;
     let verdict = pile.apply(capacity, lots.as_mut_slice())?;
     Ok(Answer::Applied { verdict, lots })
+}
+
+// `open C`
+fn open(plan: &mut Plan, words: Parts<'_>) -> Result<Answer, Fault>
+    ensures { Comes (Answers open_call words.entry) (Asks open_call words.entry → ⊥) plan.old plan.new result }
+{
+    let [capacity] = numbers::<1>(words).ok_or(Fault::Unknown)?;
+    plan.open(capacity)?;
+    Ok(Answer::Done)
+}
+
+// `admit EST LCT P C`
+fn admit(plan: &mut Plan, words: Parts<'_>) -> Result<Answer, Fault>
+    ensures { Comes (Answers admit_call words.entry) (Asks admit_call words.entry → ⊥) plan.old plan.new result }
+{
+    let lot = lot(words).ok_or(Fault::Unknown)?;
+    let number = plan.admit(lot)?;
+    Ok(Answer::Admitted { number })
+}
+
+// `narrow LOT FROM TO`
+fn narrow(plan: &mut Plan, words: Parts<'_>) -> Result<Answer, Fault>
+    ensures { Comes (Answers narrow_call words.entry) (Asks narrow_call words.entry → ⊥) plan.old plan.new result }
+{
+    let [lot, from, to] = numbers::<3>(words).ok_or(Fault::Unknown)?;
+    plan.narrow(lot as usize, from, to)?;
+    Ok(Answer::Done)
+}
+
+// `tighten PILE`
+fn tighten(plan: &mut Plan, mut words: Parts<'_>) -> Result<Answer, Fault>
+    ensures { Comes (Answers tighten_call words.entry) (Asks tighten_call words.entry → ⊥) plan.old plan.new result }
+{
+    let pile: Pile = words.next().ok_or(Fault::Unknown)?.parse()?;
+    if words.next().is_some() {
+        return Err(Fault::Unknown);
+    }
+    let (verdict, applications) = plan.tighten(&pile);
+    Ok(Answer::Tightened {
+        verdict,
+        applications,
+    })
+}
+
+// `windows`
+fn windows(heap: Global, plan: &Plan, mut words: Parts<'_>) -> Result<Answer, Fault>
+    ensures { Comes (Answers windows_call words.entry) (Asks windows_call words.entry → ⊥) plan.now plan.now result }
+{
+    if words.next().is_some() {
+        return Err(Fault::Unknown);
+    }
+    let lots = plan.lots().to_vec(heap)?;
+    Ok(Answer::Windows {
+        capacity: plan.capacity(),
+        lots,
+    })
 }

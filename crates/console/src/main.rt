@@ -2,6 +2,7 @@
 #![tactic(auto)]
 
 use calls::answer;
+use plan::Plan;
 use std::io::{BufRead, BufReader};
 
 mod answers;
@@ -12,9 +13,10 @@ mod words;
 
 fn main(rt: HostRuntime) -> anyhow::Result<()> {
     let heap = rt.alloc();
+    let mut plan = Plan::new();
     for line in BufReader::new(heap, rt.stdin())?.split(heap, b'\n') {
         let line = line?;
-        if let Some(answer) = answer(heap, line.as_slice())? {
+        if let Some(answer) = answer(heap, &mut plan, line.as_slice())? {
             rt.println(answer)?;
         }
     }

@@ -1,8 +1,8 @@
 // Reads the words of a line: numbers and cells.
-ghost use Rattle.std.specs.Prelude.{◌≡◌, ℕ, List, MatchResult};
+ghost use Rattle.std.specs.Prelude.{◌≡◌, ℕ, List, length, MatchResult};
 ghost use Rattle.std.specs.List.{AllZip};
-ghost use Rattle.console.specs.Lines.{Unread, Table};
-ghost use Rattle.console.specs.Syntax.{Reads, Number, Cell};
+ghost use Rattle.console.specs.Lines.{Unread, TableForm};
+ghost use Rattle.console.specs.Syntax.{Reads, Number, lot_numbers, Cell};
 
 use crate::answers::Fault;
 use crate::parts::Parts;
@@ -22,19 +22,33 @@ fn number(word: &str) -> Option<u16>
     word.parse().ok()
 }
 
+// The numbers that the parts write, where there are just `N` of them.
+pub fn numbers<const N: usize>(mut parts: Parts<'_>) -> Option<[u16; N]>
+    ensures { Reads (λ ns. (length ns ≡ N) × AllZip Number parts.entry ns) result }
+{
+    let mut numbers = [0; N];
+    for slot in numbers.iter_mut() {
+        *slot = number(parts.next()?)?;
+    }
+    match parts.next() {
+        None => Some(numbers),
+        Some(_) => None,
+    }
+}
+
+// The lot whose four numbers the parts write.
+pub fn lot(parts: Parts<'_>) -> Option<Lot>
+    ensures { Reads (λ x. AllZip Number parts.entry (lot_numbers x)) result }
+{
+    let [est, lct, p, c] = numbers::<4>(parts)?;
+    Some(Lot { est, lct, p, c })
+}
+
 // The lot of the cell `est,lct,p,c`.
 fn cell(word: &str) -> Option<Lot>
     ensures { Reads (Cell word.now) result }
 {
-    let mut numbers = Parts::cut(word, ',');
-    let est = number(numbers.next()?)?;
-    let lct = number(numbers.next()?)?;
-    let p = number(numbers.next()?)?;
-    let c = number(numbers.next()?)?;
-    match numbers.next() {
-        None => Some(Lot { est, lct, p, c }),
-        Some(_) => None,
-    }
+    lot(Parts::cut(word, ','))
 }
 
 // The lots of the cells that the words left write.
@@ -52,7 +66,7 @@ fn cells(heap: Global, words: Parts<'_>) -> Result<Vec<Lot>, Fault>
 
 // The capacity and the lots of the table that the words left write, as `C CELL..`: a pair, which callers take apart at once.
 pub fn table(heap: Global, mut words: Parts<'_>) -> Result<(u16, Vec<Lot>), Fault>
-    ensures { MatchResult result (λ t. Table words.entry t.0 t.1.items) (λ f. Unread f ((C : ℕ) (T : List Lot) → Table words.entry C T → ⊥)) }
+    ensures { MatchResult result (λ t. TableForm words.entry t.0 t.1.items) (λ f. Unread f ((C : ℕ) (T : List Lot) → TableForm words.entry C T → ⊥)) }
 {
     let capacity = words.next().and_then(number).ok_or(Fault::Unknown)?;
     let lots = cells(heap, words)?;

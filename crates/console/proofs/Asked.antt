@@ -1,0 +1,36 @@
+-- What the words of a line ask.
+use Rattle.std.proofs.Common.{◌≡◌, ℕ, cond, eqb, List, ◌∷◌, length, get_or, Ok, Err, Result, sym, refl, ap, ◌∙◌, subst}
+use Rattle.plan.specs.Tables.{Table}
+use Rattle.console.specs.Lines.{Name, overflow_call, rule_call, open_call, admit_call, narrow_call, tighten_call, windows_call, word_of, Asks, Known, Answers, Made, Comes}
+use Rattle.console.specs.declared.answers.Answer.{Answer}
+use Rattle.console.specs.declared.answers.Fault.{Fault}
+use Rattle.console.specs.declared.answers.Fault.TheVariants as fault
+
+-- the name that a word is, by its first byte; of the two that begin with an `o`, overflow is the longer
+abbrev name_by : ℕ → ℕ → Name
+name_by b count =
+    cond (eqb b 114) rule_call (cond (eqb b 97) admit_call (cond (eqb b 110) narrow_call (cond (eqb b 116) tighten_call (cond (eqb b 119) windows_call (cond (eqb count 8) overflow_call open_call)))))
+
+name_by_word : (n : Name) → name_by (get_or (word_of n) 0 0) (length (word_of n)) ≡ n
+name_by_word overflow_call = refl
+name_by_word rule_call = refl
+name_by_word open_call = refl
+name_by_word admit_call = refl
+name_by_word narrow_call = refl
+name_by_word tighten_call = refl
+name_by_word windows_call = refl
+
+one_name : (n m : Name) → word_of n ≡ word_of m → n ≡ m
+one_name n m same = sym (name_by_word n) ∙ ap (λ w. name_by (get_or w 0 0) (length w)) same ∙ name_by_word m
+
+-- words that write no arguments of the call that they name write no call
+unknown_arguments : (n : Name) (words : List (List ℕ)) → (Asks n words → ⊥) → Known (word_of n ∷ words) → ⊥
+unknown_arguments n words none (m, named, asked) = none (subst (λ k. Asks k words) (sym (one_name n m named)) asked)
+
+-- what came of the words after a name is what came of the whole line
+pub comes_named : (n : Name) (words : List (List ℕ)) (P Q : Table) (r : Result Answer Fault)
+    → Comes (Answers n words) (Asks n words → ⊥) P Q r → Comes (Made (word_of n ∷ words)) (Known (word_of n ∷ words) → ⊥) P Q r
+comes_named n words P Q (Ok a) is = (n, refl, is)
+comes_named n words P Q (Err (fault.Refused refusal)) is = (n, refl, is)
+comes_named n words P Q (Err fault.Unknown) none = (unknown_arguments n words none.0, none.1)
+comes_named n words P Q (Err fault.Memory) same = same
