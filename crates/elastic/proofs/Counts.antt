@@ -28,20 +28,21 @@ has_known t u ts h = elim (cases_Bool (eqb t u)) [
 abbrev one : Bool → ℕ
 one b = cond b 0 1
 
-pub distinct_push : (ts : List ℕ) (u : ℕ) → distinct (ts ++ (u ∷ [])) ≡ distinct ts + cond (has u ts) 0 1
-distinct_push [] u = refl
-distinct_push (t ∷ ts) u =
-    let ih = distinct_push ts u in
-    let here = ap one (has_push t u ts) in
+-- one more number, put in anywhere
+pub distinct_between : (ts us : List ℕ) (u : ℕ) → distinct (ts ++ (u ∷ us)) ≡ distinct (ts ++ us) + cond (has u (ts ++ us)) 0 1
+distinct_between [] us u = omega arith
+distinct_between (t ∷ ts) us u =
+    let ih = distinct_between ts us u in
+    let here = ap one (has_between t u ts us) in
     elim (cases_eq t u) [
       | inl e ↦
-          let now = ap (λ b. one (b || has t ts)) (eq-eqb t u e) in
-          let then = ap (λ b. one (b || has u ts)) (eq-eqb u t (sym e)) in
-          let same = ap (λ v. one (has v ts)) e in
+          let now = ap (λ b. one (b || has t (ts ++ us))) (eq-eqb t u e) in
+          let then = ap (λ b. one (b || has u (ts ++ us))) (eq-eqb u t (sym e)) in
+          let same = ap (λ v. one (has v (ts ++ us))) e in
           omega (arith, here, now, then, same, ih)
       | inr ne ↦
-          let now = ap (λ b. one (b || has t ts)) (ne_eqb t u ne) in
-          let then = ap (λ b. one (b || has u ts)) (ne_eqb u t (λ e. ne (sym e))) in
+          let now = ap (λ b. one (b || has t (ts ++ us))) (ne_eqb t u ne) in
+          let then = ap (λ b. one (b || has u (ts ++ us))) (ne_eqb u t (λ e. ne (sym e))) in
           omega (arith, here, now, then, ih)
     ]
 

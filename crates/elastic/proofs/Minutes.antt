@@ -1,40 +1,140 @@
 -- The profile counted from minute 0, and not from the earliest est.
-use Rattle.std.proofs.Common.{◌≡◌, ℕ, zero, suc, ◌+◌, ◌-◌, ◌<◌, ◌≤◌, cond, List, [], ◌∷◌, sym, refl, ap, ◌∙◌, add-suc, arith}
+use Rattle.std.proofs.Common.{◌≡◌, ℕ, zero, suc, ◌+◌, ◌-◌, ◌<◌, ◌≤◌, min, Bool, true, false, cond, leb, ltb, List, [], ◌∷◌, ◌++◌, sym, refl, ap, ◌∙◌, inl, inr, add-suc, arith}
 use Rattle.std.specs.List.{AllByRecursion}
+use Rattle.std.proofs.ByRecursion.{All-append}
+use Rattle.std.proofs.lemmas.List.{append-nil}
+use Rattle.std.proofs.lemmas.Bool.{cases_lt, leb-true, leb-false}
 use Rattle.std.proofs.lemmas.Bool.Decides.{nat_tests}
 use Rattle.lots.specs.Schedules.{spans}
+use Rattle.lots.specs.Tables.{ect}
 use Rattle.lots.specs.declared.Lot.{Lot}
-use Rattle.elastic.specs.Profile.{earliest, latest, cmax, creq, ov_before, overflow}
+use Rattle.elastic.specs.Parts.{kept}
+use Rattle.elastic.specs.Profile.{earliest, latest, available, creq, ov_before, overflow}
+use Rattle.elastic.proofs.Profiles.{available_between, creq_between}
 
--- ov in the minute before t, counted from minute 0
-abbrev pub rest : ℕ → List Lot → ℕ → ℕ
-rest C Ω zero = 0
-rest C Ω (suc t) = (rest C Ω t + creq Ω t) - cmax C Ω t
+-- ov in the minute before t, counted from minute 0, where U t trays can be in use at t
+abbrev pub rest : (ℕ → ℕ) → List Lot → ℕ → ℕ
+rest U Ω zero = 0
+rest U Ω (suc t) = (rest U Ω t + creq Ω t) - min (available Ω t) (U t)
 
-spans_early : (a b c t : ℕ) → t < a → cond (spans a b t) c 0 ≡ 0
-spans_early a b c t h = grind (arith, nat_tests)
+-- those that can where c of C are kept until m
+abbrev pub usable : ℕ → ℕ → ℕ → ℕ → ℕ
+usable C c m t = cond (ltb t m) (C - c) C
+
+pub usable_before : (C c m t : ℕ) → t < m → usable C c m t ≡ C - c
+usable_before C c m t h = grind (arith, nat_tests)
+
+pub usable_after : (C c m t : ℕ) → m ≤ t → usable C c m t ≡ C
+usable_after C c m t h = grind (arith, nat_tests)
+
+spans_out : (a b c t : ℕ) → t < a → cond (spans a b t) c 0 ≡ 0
+spans_out a b c t h = grind (arith, nat_tests)
+
+spans_past : (a b c t : ℕ) → b ≤ t → cond (spans a b t) c 0 ≡ 0
+spans_past a b c t h = grind (arith, nat_tests)
+
+spans_in : (a b c t : ℕ) → a ≤ t → t < b → cond (spans a b t) c 0 ≡ c
+spans_in a b c t h k = grind (arith, nat_tests)
 
 creq_early : (Ω : List Lot) (t : ℕ) → t < earliest Ω → creq Ω t ≡ 0
 creq_early [] t h = refl
-creq_early (x ∷ []) t h = omega (arith, spans_early x.est (x.est + x.p) x.c t h)
+creq_early (x ∷ []) t h = omega (arith, spans_out x.est (x.est + x.p) x.c t h)
 creq_early (x ∷ (y ∷ ys)) t h =
-    omega (arith, spans_early x.est (x.est + x.p) x.c t (omega arith), creq_early (y ∷ ys) t (omega arith))
+    omega (arith, spans_out x.est (x.est + x.p) x.c t (omega arith), creq_early (y ∷ ys) t (omega arith))
 
 -- no lot is open before the earliest est
-pub rest_early : (C : ℕ) (Ω : List Lot) (t : ℕ) → t ≤ earliest Ω → rest C Ω t ≡ 0
-rest_early C Ω zero h = refl
-rest_early C Ω (suc t) h = omega (arith, rest_early C Ω t (omega arith), creq_early Ω t h)
+pub rest_early : (U : ℕ → ℕ) (Ω : List Lot) (t : ℕ) → t ≤ earliest Ω → rest U Ω t ≡ 0
+rest_early U Ω zero h = refl
+rest_early U Ω (suc t) h = omega (arith, rest_early U Ω t (omega arith), creq_early Ω t h)
 
-pub rest_from : (C : ℕ) (Ω : List Lot) (k : ℕ) → rest C Ω (earliest Ω + k) ≡ ov_before C Ω k
-rest_from C Ω zero = rest_early C Ω (earliest Ω + 0) (omega arith)
-rest_from C Ω (suc k) = ap (rest C Ω) (add-suc (earliest Ω) k) ∙ omega (arith, rest_from C Ω k)
+pub rest_from : (C : ℕ) (Ω : List Lot) (k : ℕ) → rest (λ t. C) Ω (earliest Ω + k) ≡ ov_before C Ω k
+rest_from C Ω zero = rest_early (λ t. C) Ω (earliest Ω + 0) (omega arith)
+rest_from C Ω (suc k) = ap (rest (λ t. C) Ω) (add-suc (earliest Ω) k) ∙ omega (arith, rest_from C Ω k)
 
-earliest_latest : (Ω : List Lot) → AllByRecursion (λ x. x.est ≤ x.lct) Ω → earliest Ω ≤ latest Ω
+-- a lot ends in its window
+abbrev pub Ends : Lot → Type 0
+Ends x = ect x ≤ x.lct
+
+earliest_latest : (Ω : List Lot) → AllByRecursion Ends Ω → earliest Ω ≤ latest Ω
 earliest_latest [] h = omega arith
 earliest_latest (x ∷ []) h = omega (arith, h.0)
 earliest_latest (x ∷ (y ∷ ys)) h = omega (arith, h.0)
 
-pub overflow_rest : (C : ℕ) (Ω : List Lot) → AllByRecursion (λ x. x.est ≤ x.lct) Ω → overflow C Ω ≡ rest C Ω (latest Ω)
+pub overflow_rest : (C : ℕ) (Ω : List Lot) → AllByRecursion Ends Ω → overflow C Ω ≡ rest (λ t. C) Ω (latest Ω)
 overflow_rest C Ω h =
     let e : earliest Ω + (latest Ω - earliest Ω) ≡ latest Ω = omega (arith, earliest_latest Ω h) in
-    sym (rest_from C Ω (latest Ω - earliest Ω)) ∙ ap (rest C Ω) e
+    sym (rest_from C Ω (latest Ω - earliest Ω)) ∙ ap (rest (λ t. C) Ω) e
+
+creq_late : (Ω : List Lot) (t : ℕ) → AllByRecursion Ends Ω → latest Ω ≤ t → creq Ω t ≡ 0
+creq_late [] t h l = refl
+creq_late (x ∷ xs) t h l = omega (arith, spans_past x.est (ect x) x.c t (omega (arith, h.0)), creq_late xs t h.1 (omega arith))
+
+available_late : (Ω : List Lot) (t : ℕ) → latest Ω ≤ t → available Ω t ≡ 0
+available_late [] t l = refl
+available_late (x ∷ xs) t l = omega (arith, spans_past x.est x.lct x.c t (omega arith), available_late xs t (omega arith))
+
+-- past the latest lct nothing changes
+rest_late : (U : ℕ → ℕ) (Ω : List Lot) → AllByRecursion Ends Ω → (k : ℕ) → rest U Ω (latest Ω + k) ≡ rest U Ω (latest Ω)
+rest_late U Ω h zero = ap (rest U Ω) (omega arith)
+rest_late U Ω h (suc k) =
+    ap (rest U Ω) (add-suc (latest Ω) k)
+    ∙ omega (arith, rest_late U Ω h k, creq_late Ω (latest Ω + k) h (omega arith), available_late Ω (latest Ω + k) (omega arith))
+
+latest_push : (Ω : List Lot) (x : Lot) → latest Ω ≤ latest (Ω ++ (x ∷ []))
+latest_push [] x = omega arith
+latest_push (y ∷ ys) x = omega (arith, latest_push ys x)
+
+-- a run that keeps trays from the earliest est on leaves as much over as fewer trays until its end
+module _ (C c m : ℕ) (fits : c ≤ C) (Ω : List Lot) where
+  abbrev run : Lot
+  run = record { est = earliest Ω; lct = m; p = m - earliest Ω; c = c }
+
+  none_kept : m ≤ earliest Ω → (t : ℕ) → rest (λ u. C) Ω t ≡ rest (usable C c m) Ω t
+  none_kept early zero = refl
+  none_kept early (suc t) = elim (cases_lt t m) [
+    | inl h ↦ omega (arith, rest_early (λ u. C) Ω (suc t) (omega arith), rest_early (usable C c m) Ω (suc t) (omega arith))
+    | inr h ↦ omega (arith, none_kept early t, usable_after C c m t h)
+  ]
+
+  module _ (later : earliest Ω < m) where
+    open_run : (t : ℕ) → available (Ω ++ (run ∷ [])) t ≡ available Ω t + cond (spans (earliest Ω) m t) c 0
+    open_run t = available_between t Ω [] run ∙ ap (λ xs. available xs t + cond (spans (earliest Ω) m t) c 0) (append-nil Ω)
+
+    due_run : (t : ℕ) → creq (Ω ++ (run ∷ [])) t ≡ creq Ω t + cond (spans (earliest Ω) m t) c 0
+    due_run t =
+        let end : earliest Ω + (m - earliest Ω) ≡ m = omega arith in
+        creq_between t Ω [] run
+        ∙ ap (λ xs. creq xs t + cond (spans (earliest Ω) (ect run) t) c 0) (append-nil Ω)
+        ∙ ap (λ n. creq Ω t + cond (spans (earliest Ω) n t) c 0) end
+
+    some_kept : (t : ℕ) → rest (λ u. C) (Ω ++ (run ∷ [])) t ≡ rest (usable C c m) Ω t
+    some_kept zero = refl
+    some_kept (suc t) = elim (cases_lt t (earliest Ω)) [
+      | inl h ↦
+          omega (
+            arith,
+            some_kept t,
+            rest_early (usable C c m) Ω t (omega arith),
+            rest_early (usable C c m) Ω (suc t) h,
+            due_run t,
+            creq_early Ω t h,
+            spans_out (earliest Ω) m c t h,
+          )
+      | inr g ↦ elim (cases_lt t m) [
+        | inl h ↦ omega (arith, some_kept t, due_run t, open_run t, spans_in (earliest Ω) m c t g h, usable_before C c m t h, fits)
+        | inr h ↦ omega (arith, some_kept t, due_run t, open_run t, spans_past (earliest Ω) m c t h, usable_after C c m t h)
+      ]
+    ]
+
+  kept_by : AllByRecursion Ends Ω → (b : Bool) → leb m (earliest Ω) ≡ b → overflow C (Ω ++ cond b [] (run ∷ [])) ≡ rest (usable C c m) Ω (latest Ω)
+  kept_by h true e =
+      ap (overflow C) (append-nil Ω) ∙ overflow_rest C Ω h ∙ none_kept (leb-true m (earliest Ω) e) (latest Ω)
+  kept_by h false e =
+      let later = leb-false m (earliest Ω) e in
+      let ends : AllByRecursion Ends (Ω ++ (run ∷ [])) = All-append Ends Ω (run ∷ []) h (omega arith, tt) in
+      let most = latest (Ω ++ (run ∷ [])) in
+      let past : most ≡ latest Ω + (most - latest Ω) = omega (arith, latest_push Ω run) in
+      overflow_rest C (Ω ++ (run ∷ [])) ends ∙ some_kept later most ∙ ap (rest (usable C c m) Ω) past ∙ rest_late (usable C c m) Ω h (most - latest Ω)
+
+  pub overflow_kept : AllByRecursion Ends Ω → overflow C (Ω ++ kept c m Ω) ≡ rest (usable C c m) Ω (latest Ω)
+  overflow_kept h = kept_by h (leb m (earliest Ω)) refl

@@ -1,7 +1,7 @@
 -- A lot added to a profile.
 use Rattle.std.proofs.Common.{◌≡◌, ℕ, ◌+◌, ◌*◌, ◌<◌, ◌≤◌, Bool, true, false, cond, ◌||◌, eqb, leb, List, [], ◌∷◌, ◌++◌, length, pos, ◌+ℤ◌, neg_ℤ, sym, refl, ap, ◌∙◌, subst, ap₂, arith}
 use Rattle.std.specs.List.{AllByRecursion}
-use Rattle.std.proofs.lemmas.List.{length_push}
+use Rattle.std.proofs.lemmas.List.{append_assoc}
 use Rattle.std.proofs.lemmas.Int.{ints}
 use Rattle.std.proofs.lemmas.Bool.Decides.{nat_tests}
 use Rattle.lots.specs.Limits.{max_capacity}
@@ -12,7 +12,7 @@ use Rattle.elastic.specs.Profile.{available, creq, minutes, has, distinct}
 use Rattle.elastic.specs.Points.{max_points, minutes_of, at_est, at_ect, at_lct, Small, Entered, Profiles}
 use Rattle.elastic.specs.declared.profile.Point.{Point}
 use Rattle.std.proofs.ByRecursion.{All-weaker}
-use Rattle.elastic.proofs.Counts.{has_push, distinct_push, at_most_one, points_few}
+use Rattle.elastic.proofs.Counts.{has_between, distinct_between, at_most_one, points_few}
 use Rattle.elastic.proofs.Points.{weaker_small}
 
 -- ps has one point for each of the minutes ts
@@ -20,24 +20,32 @@ record Gathers (ps : List Point) (ts : List ℕ) : Type 0 where
   count : length ps ≡ distinct ts
   at : (t : ℕ) → has t (minutes_of ps) ≡ has t ts
 
-gathers_push : (ps qs : List Point) (ts : List ℕ) (e : Point) → Gathers ps ts → Entered ps e qs → Gathers qs (ts ++ (e.minute ∷ []))
-gathers_push ps qs ts e g n = record {
-  count = n.count ∙ ap₂ (λ m b. m + cond b 0 1) g.count (g.at e.minute) ∙ sym (distinct_push ts e.minute);
-  at = λ t. n.at t ∙ ap (λ b. eqb t e.minute || b) (g.at t) ∙ sym (has_push t e.minute ts);
-}
+module _ (ps qs : List Point) (ts us : List ℕ) (e : Point) where
+  gathers_between : Gathers ps (ts ++ us) → Entered ps e qs → Gathers qs (ts ++ (e.minute ∷ us))
+  gathers_between g n = record {
+    count = n.count ∙ ap₂ (λ m b. m + cond b 0 1) g.count (g.at e.minute) ∙ sym (distinct_between ts us e.minute);
+    at = λ t. n.at t ∙ ap (λ b. eqb t e.minute || b) (g.at t) ∙ sym (has_between t e.minute ts us);
+  }
 
-minutes_push : (Ω : List Lot) (x : Lot) → minutes (Ω ++ (x ∷ [])) ≡ ((minutes Ω ++ (x.est ∷ [])) ++ (ect x ∷ [])) ++ (x.lct ∷ [])
-minutes_push [] x = refl
-minutes_push (y ∷ ys) x = ap (λ ts. y.est ∷ (ect y ∷ (y.lct ∷ ts))) (minutes_push ys x)
+minutes_append : (Ω Ψ : List Lot) → minutes (Ω ++ Ψ) ≡ minutes Ω ++ minutes Ψ
+minutes_append [] Ψ = refl
+minutes_append (y ∷ ys) Ψ = ap (λ ts. y.est ∷ (ect y ∷ (y.lct ∷ ts))) (minutes_append ys Ψ)
+
+after_push : (ts us : List ℕ) (t : ℕ) → ts ++ (t ∷ us) ≡ (ts ++ (t ∷ [])) ++ us
+after_push ts us t = sym (append_assoc ts (t ∷ []) us)
+
+length_between : (Ω Ψ : List Lot) (x : Lot) → length (Ω ++ (x ∷ Ψ)) ≡ length (Ω ++ Ψ) + 1
+length_between [] Ψ x = omega arith
+length_between (y ∷ ys) Ψ x = omega (arith, length_between ys Ψ x)
 
 module _ (t : ℕ) where
-  available_push : (Ω : List Lot) (x : Lot) → available (Ω ++ (x ∷ [])) t ≡ available Ω t + cond (spans x.est x.lct t) x.c 0
-  available_push [] x = omega arith
-  available_push (y ∷ ys) x = omega (arith, available_push ys x)
+  pub available_between : (Ω Ψ : List Lot) (x : Lot) → available (Ω ++ (x ∷ Ψ)) t ≡ available (Ω ++ Ψ) t + cond (spans x.est x.lct t) x.c 0
+  available_between [] Ψ x = omega arith
+  available_between (y ∷ ys) Ψ x = omega (arith, available_between ys Ψ x)
 
-  creq_push : (Ω : List Lot) (x : Lot) → creq (Ω ++ (x ∷ [])) t ≡ creq Ω t + cond (spans x.est (ect x) t) x.c 0
-  creq_push [] x = omega arith
-  creq_push (y ∷ ys) x = omega (arith, creq_push ys x)
+  pub creq_between : (Ω Ψ : List Lot) (x : Lot) → creq (Ω ++ (x ∷ Ψ)) t ≡ creq (Ω ++ Ψ) t + cond (spans x.est (ect x) t) x.c 0
+  creq_between [] Ψ x = omega arith
+  creq_between (y ∷ ys) Ψ x = omega (arith, creq_between ys Ψ x)
 
   -- c from a on and −c from b on is c in the span from a to b
   step_up_down : (a b c : ℕ) → a ≤ b → cond (leb a t) (pos c) (pos 0) +ℤ cond (leb b t) (neg_ℤ (pos c)) (pos 0) ≡ pos (cond (spans a b t) c 0)
@@ -73,28 +81,43 @@ module _ (x : Lot) where
       required_high = omega (arith, ints);
     }
 
-module _ (ps qs rs ps' : List Point) (Ω : List Lot) (x : Lot) (p : Profiles ps Ω) (ok : LawfulLot max_capacity x)
+module _ (ps qs rs ps' : List Point) (Ω Ψ : List Lot) (x : Lot) (p : Profiles ps (Ω ++ Ψ)) (ok : LawfulLot max_capacity x)
     (n : Entered ps (at_est x) qs)
     (m : Entered qs (at_ect x) rs)
     (k : Entered rs (at_lct x) ps') where
-  gathered : Gathers ps' (minutes (Ω ++ (x ∷ [])))
+  gathered : Gathers ps' (minutes (Ω ++ (x ∷ Ψ)))
   gathered =
-      let first = gathers_push ps qs (minutes Ω) _ (record { count = p.count; at = p.at }) n in
-      let second = gathers_push qs rs _ _ first m in
-      subst (Gathers ps') (sym (minutes_push Ω x)) (gathers_push rs ps' _ _ second k)
+      let none : Gathers ps (minutes Ω ++ minutes Ψ) = subst (Gathers ps) (minutes_append Ω Ψ) (record { count = p.count; at = p.at }) in
+      let first = gathers_between ps qs (minutes Ω) (minutes Ψ) _ none n in
+      let est : List ℕ = minutes Ω ++ (x.est ∷ []) in
+      let second = gathers_between qs rs est (minutes Ψ) _ (subst (Gathers qs) (after_push (minutes Ω) (minutes Ψ) x.est) first) m in
+      let third = gathers_between rs ps' (est ++ (ect x ∷ [])) (minutes Ψ) _ (subst (Gathers rs) (after_push est (minutes Ψ) (ect x)) second) k in
+      let joined = minutes_append Ω (x ∷ Ψ) ∙ after_push (minutes Ω) (ect x ∷ (x.lct ∷ minutes Ψ)) x.est ∙ after_push est (x.lct ∷ minutes Ψ) (ect x) in
+      subst (Gathers ps') (sym joined) third
 
-  total : 3 * max_capacity * length Ω + max_capacity + max_capacity + max_capacity ≡ 3 * max_capacity * length (Ω ++ (x ∷ []))
-  total = omega (arith, length_push Ω x)
+  total : 3 * max_capacity * length (Ω ++ Ψ) + max_capacity + max_capacity + max_capacity ≡ 3 * max_capacity * length (Ω ++ (x ∷ Ψ))
+  total = omega (arith, length_between Ω Ψ x)
 
-  pub profiles_push : Profiles ps' (Ω ++ (x ∷ []))
-  profiles_push = record {
+  -- the lot x may come in anywhere in the list
+  pub profiles_between : Profiles ps' (Ω ++ (x ∷ Ψ))
+  profiles_between = record {
     rising = k.rising;
     count = gathered.count;
     at = gathered.at;
-    available = λ t. omega (arith, ints, p.available t, n.available t, m.available t, k.available t, step_up_down t x.est x.lct x.c (omega arith), available_push t Ω x, none (leb (ect x) t));
-    required = λ t. omega (arith, ints, p.required t, n.required t, m.required t, k.required t, step_up_down t x.est (ect x) x.c (omega arith), creq_push t Ω x, none (leb x.lct t));
+    available = λ t. omega (arith, ints, p.available t, n.available t, m.available t, k.available t, step_up_down t x.est x.lct x.c (omega arith), available_between t Ω Ψ x, none (leb (ect x) t));
+    required = λ t. omega (arith, ints, p.required t, n.required t, m.required t, k.required t, step_up_down t x.est (ect x) x.c (omega arith), creq_between t Ω Ψ x, none (leb x.lct t));
     small = subst (λ b. AllByRecursion (Small b) ps') total (k.small _ max_capacity (m.small _ max_capacity (n.small _ max_capacity p.small (small_at_est x ok)) (small_at_ect x ok)) (small_at_lct x ok));
   }
+
+pub profiles_none : Profiles [] []
+profiles_none = record {
+  rising = λ i j d h l. absurd (omega arith);
+  count = refl;
+  at = λ t. refl;
+  available = λ t. refl;
+  required = λ t. refl;
+  small = tt;
+}
 
 pub entered_as : (ps qs : List Point) (e e' : Point) → e ≡ e' → Entered ps e qs → Entered ps e' qs
 entered_as ps qs e e' is = subst (λ x. Entered ps x qs) is

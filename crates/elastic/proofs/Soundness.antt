@@ -5,7 +5,7 @@ use Rattle.std.proofs.lemmas.Bool.Decides.{nat_tests}
 use Rattle.lots.specs.Schedules.{spans, load, Placed, Schedule}
 use Rattle.lots.specs.declared.Lot.{Lot}
 use Rattle.elastic.specs.Profile.{latest, available, creq, overflow}
-use Rattle.elastic.proofs.Minutes.{rest, overflow_rest}
+use Rattle.elastic.proofs.Minutes.{rest, Ends, overflow_rest}
 
 -- how many of the p minutes from a are before t
 abbrev done : ℕ → ℕ → ℕ → ℕ
@@ -69,7 +69,7 @@ module _ (t : ℕ) where
       omega (arith, spans_inside s (s + x.p) x.est x.lct t x.c h.0.0 h.0.1, load_open xs ss h.1)
 
 -- what is left over is at most the work that the schedule puts off
-rest_work : (C : ℕ) (Ω : List Lot) (ss : List ℕ) → Schedule C Ω ss → (t : ℕ) → rest C Ω t + work t Ω ss ≤ work t Ω (ests Ω)
+rest_work : (C : ℕ) (Ω : List Lot) (ss : List ℕ) → Schedule C Ω ss → (t : ℕ) → rest (λ u. C) Ω t + work t Ω ss ≤ work t Ω (ests Ω)
 rest_work C Ω ss h zero = omega (arith, work_le 0 Ω ss h.placed)
 rest_work C Ω ss h (suc t) =
     omega (
@@ -83,7 +83,7 @@ rest_work C Ω ss h (suc t) =
       h.within t,
     )
 
-placed_fits : (Ω : List Lot) (ss : List ℕ) → Placed Ω ss → AllByRecursion (λ x. x.est ≤ x.lct) Ω
+placed_fits : (Ω : List Lot) (ss : List ℕ) → Placed Ω ss → AllByRecursion Ends Ω
 placed_fits [] ss h = tt
 placed_fits (x ∷ xs) [] h = absurd h
 placed_fits (x ∷ xs) (s ∷ ss) h = (omega arith, placed_fits xs ss h.1)

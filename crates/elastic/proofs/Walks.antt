@@ -1,5 +1,5 @@
 -- The walk along the points of a profile.
-use Rattle.std.proofs.Common.{◌≡◌, ℕ, zero, suc, ◌+◌, ◌-◌, ◌*◌, ◌<◌, ◌≤◌, min, Bool, true, false, cond, ◌||◌, eqb, List, [], ◌∷◌, length, drop, ℤ, pos, ◌+ℤ◌, Less, sym, refl, ap, ◌∙◌, subst, inl, inr, add-zero, add-suc, suc-mul, mul-le-mul_left, zero-mul, arith}
+use Rattle.std.proofs.Common.{◌≡◌, ℕ, zero, suc, ◌+◌, ◌-◌, ◌*◌, ◌<◌, ◌≤◌, min, max, Bool, true, false, cond, ◌||◌, eqb, List, [], ◌∷◌, ◌++◌, length, drop, ℤ, pos, ◌+ℤ◌, Less, sym, refl, ap, ap₂, ◌∙◌, subst, inl, inr, add-zero, add-suc, suc-mul, mul-le-mul_left, zero-mul, arith}
 use Rattle.std.specs.List.{AllByRecursion}
 use Rattle.std.proofs.lemmas.List.{drop_more, drop_all}
 use Rattle.std.proofs.lemmas.Int.{ints}
@@ -11,20 +11,21 @@ use Rattle.lots.specs.Limits.{horizon, max_capacity, max_lots}
 use Rattle.lots.specs.Tables.{ect, LawfulLot, Lawful}
 use Rattle.lots.specs.declared.Lot.{Lot}
 use Rattle.elastic.specs.Profile as profile
-use Rattle.elastic.specs.Profile.{latest, cmax, creq, minutes, has, overflow}
+use Rattle.elastic.specs.Profile.{latest, creq, minutes, has, overflow}
+use Rattle.elastic.specs.Parts.{kept}
 use Rattle.elastic.specs.Points.{minutes_of, point_at, Rising, upto, Profiles}
 use Rattle.elastic.specs.declared.profile.Point.{Point}
 use Rattle.elastic.proofs.Keys.{key_has}
-use Rattle.elastic.proofs.Minutes.{rest, overflow_rest}
+use Rattle.elastic.proofs.Minutes.{rest, usable, usable_before, usable_after, overflow_kept}
 use Rattle.std.specs.Ordering.{nat_cmp}
 
 -- over n minutes in which r trays are required and m can be used
-pub rest_level : (C : ℕ) (Ω : List Lot) (t n r m : ℕ) → ((u : ℕ) → t ≤ u → u < t + n → (creq Ω u ≡ r) × (cmax C Ω u ≡ m)) → rest C Ω (t + n) ≡ (rest C Ω t + n * r) - n * m
-rest_level C Ω t zero r m level = ap (rest C Ω) (add-zero t) ∙ omega (arith, zero-mul r, zero-mul m)
-rest_level C Ω t (suc n) r m level =
-    let ih = rest_level C Ω t n r m (λ u h l. level u h (omega arith)) in
+pub rest_level : (U : ℕ → ℕ) (Ω : List Lot) (t n r m : ℕ) → ((u : ℕ) → t ≤ u → u < t + n → (creq Ω u ≡ r) × (min (profile.available Ω u) (U u) ≡ m)) → rest U Ω (t + n) ≡ (rest U Ω t + n * r) - n * m
+rest_level U Ω t zero r m level = ap (rest U Ω) (add-zero t) ∙ omega (arith, zero-mul r, zero-mul m)
+rest_level U Ω t (suc n) r m level =
+    let ih = rest_level U Ω t n r m (λ u h l. level u h (omega arith)) in
     let last = level (t + n) (omega arith) (omega arith) in
-    ap (rest C Ω) (add-suc t n) ∙ elim (cases_lt r m) [
+    ap (rest U Ω) (add-suc t n) ∙ elim (cases_lt r m) [
       | inl h ↦ omega (arith, ih, last.0, last.1, suc-mul n r, suc-mul n m)
       | inr h ↦ omega (arith, ih, last.0, last.1, suc-mul n r, suc-mul n m, mul-le-mul_left n h)
     ]
@@ -33,8 +34,9 @@ rest_level C Ω t (suc n) r m level =
 abbrev Level : (Point → ℤ) → (ℕ → ℕ) → (m n : ℕ) → List Point → Type 0
 Level f F m n ps = (t : ℕ) → m ≤ t → pos (F t) ≡ pos n +ℤ upto f ps t
 
--- where the walk stands: at the minute m, with a trays available, r required, l left over, and the points ps ahead
-pub record Walks (C : ℕ) (Ω : List Lot) (m a r l : ℕ) (ps : List Point) : Type 0 where
+-- where the walk stands: at the minute m, with a trays available, r required, l left over, and the points ps ahead,
+-- where U t trays can be in use at t
+pub record Walks (U : ℕ → ℕ) (Ω : List Lot) (m a r l : ℕ) (ps : List Point) : Type 0 where
   pub rising : Rising ps
   pub ahead : AllByRecursion (λ p. m ≤ p.minute) ps
   pub inside : AllByRecursion (λ p. p.minute ≤ latest Ω) ps
@@ -42,7 +44,7 @@ pub record Walks (C : ℕ) (Ω : List Lot) (m a r l : ℕ) (ps : List Point) : T
   pub covers : (t : ℕ) → m < t → has t (minutes Ω) ≡ has t (minutes_of ps)
   pub available : Level (λ p. p.available) (profile.available Ω) m a ps
   pub required : Level (λ p. p.required) (creq Ω) m r ps
-  pub left : l ≡ rest C Ω m
+  pub left : l ≡ rest U Ω m
   pub available_few : a ≤ max_capacity * max_lots
   pub required_few : r ≤ max_capacity * max_lots
 
@@ -70,7 +72,7 @@ module _ (t : ℕ) where
       let here = ap (λ b. cond b (f p) (pos 0)) (lt-leb p.minute t h.0) in
       omega (arith, ints, here, upto_ahead f ps h.1)
 
-rank_less : (x y : ℕ) → nat_cmp x y ≡ Less → x < y
+pub rank_less : (x y : ℕ) → nat_cmp x y ≡ Less → x < y
 rank_less x y e = grind (arith, nat_tests)
 
 rising_tail : (p : Point) (ps : List Point) → Rising (p ∷ ps) → Rising ps
@@ -97,18 +99,12 @@ module _ (f : Point → ℤ) (F : ℕ → ℕ) (m n : ℕ) (p : Point) (ps : Lis
   level_on : (n' : ℕ) → pos n' ≡ pos n +ℤ f p → Level f F p.minute n' ps
   level_on n' is t h = omega (arith, ints, is, level t (omega arith), counted t h)
 
-module _ (C : ℕ) (Ω : List Lot) (ok : Lawful max_capacity Ω) (m a r l : ℕ) (p : Point) (ps : List Point) (w : Walks C Ω m a r l (p ∷ ps)) where
+module _ (U : ℕ → ℕ) (Ω : List Lot) (ok : Lawful max_capacity Ω) (m a r l : ℕ) (p : Point) (ps : List Point) (w : Walks U Ω m a r l (p ∷ ps)) where
   pub next_available : pos (profile.available Ω p.minute) ≡ pos a +ℤ p.available
   next_available = level_there (λ q. q.available) (profile.available Ω) m a p ps w.rising w.ahead.0 w.available
 
   pub next_required : pos (creq Ω p.minute) ≡ pos r +ℤ p.required
   next_required = level_there (λ q. q.required) (creq Ω) m r p ps w.rising w.ahead.0 w.required
-
-  steady : (t : ℕ) → m ≤ t → t < p.minute → (creq Ω t ≡ r) × (cmax C Ω t ≡ min a C)
-  steady t h k = (
-    level_before (λ q. q.required) (creq Ω) m r p ps w.rising w.ahead.0 w.required t h k,
-    ap (λ n. min n C) (level_before (λ q. q.available) (profile.available Ω) m a p ps w.rising w.ahead.0 w.available t h k),
-  )
 
   pub next_later : m ≤ p.minute
   next_later = w.ahead.0
@@ -122,24 +118,51 @@ module _ (C : ℕ) (Ω : List Lot) (ok : Lawful max_capacity Ω) (m a r l : ℕ)
   pub next_required_few : creq Ω p.minute ≤ max_capacity * max_lots
   next_required_few = omega (arith, creq_most p.minute Ω ok.each, ok.few_lots)
 
-  module _ (a' r' l' : ℕ) (is_a : pos a' ≡ pos a +ℤ p.available) (is_r : pos r' ≡ pos r +ℤ p.required)
-      (is_l : l' ≡ (l + (p.minute - m) * r) - (p.minute - m) * min a C) where
-    pub walks_on : Walks C Ω p.minute a' r' l' ps
+  -- on to a minute n before the next point, or at it, up to which C trays can be in use
+  module _ (n C l' : ℕ) (low : m ≤ n) (high : n ≤ p.minute) (same : (t : ℕ) → m ≤ t → t < n → U t ≡ C)
+      (is_l : l' ≡ (l + (n - m) * r) - (n - m) * min a C) where
+    steady : (t : ℕ) → m ≤ t → t < n → (creq Ω t ≡ r) × (min (profile.available Ω t) (U t) ≡ min a C)
+    steady t h k = (
+      level_before (λ q. q.required) (creq Ω) m r p ps w.rising w.ahead.0 w.required t h (omega arith),
+      ap₂ min (level_before (λ q. q.available) (profile.available Ω) m a p ps w.rising w.ahead.0 w.available t h (omega arith)) (same t h k),
+    )
+
+    pub walks_on : Walks U Ω n a r l' (p ∷ ps)
     walks_on = record {
-      rising = rising_tail p ps w.rising;
-      ahead = All-weaker _ _ (λ q g. omega arith) ps (rising_ahead p ps w.rising);
-      inside = w.inside.1;
-      reached = w.inside.0;
-      covers = λ t h. w.covers t (omega (arith, w.ahead.0)) ∙ ap (λ b. b || has t (minutes_of ps)) (ne_eqb t p.minute (omega arith));
-      available = level_on (λ q. q.available) (profile.available Ω) m a p ps w.rising w.ahead.0 w.available a' is_a;
-      required = level_on (λ q. q.required) (creq Ω) m r p ps w.rising w.ahead.0 w.required r' is_r;
+      rising = w.rising;
+      ahead = (high, All-weaker _ _ (λ q g. omega arith) ps (rising_ahead p ps w.rising));
+      inside = w.inside;
+      reached = omega (arith, high, w.inside.0);
+      covers = λ t h. w.covers t (omega arith);
+      available = λ t h. w.available t (omega arith);
+      required = λ t h. w.required t (omega arith);
       left =
-          let span : m + (p.minute - m) ≡ p.minute = omega (arith, w.ahead.0) in
-          let level = rest_level C Ω m (p.minute - m) r (min a C) (λ t h k. steady t h (omega arith)) in
-          is_l ∙ ap (λ n. (n + (p.minute - m) * r) - (p.minute - m) * min a C) w.left ∙ sym level ∙ ap (rest C Ω) span;
-      available_few = omega (arith, ints, is_a, next_available, next_available_few);
-      required_few = omega (arith, ints, is_r, next_required, next_required_few);
+          let span : m + (n - m) ≡ n = omega arith in
+          let level = rest_level U Ω m (n - m) r (min a C) (λ t h k. steady t h (omega arith)) in
+          is_l ∙ ap (λ n'. (n' + (n - m) * r) - (n - m) * min a C) w.left ∙ sym level ∙ ap (rest U Ω) span;
+      available_few = w.available_few;
+      required_few = w.required_few;
     }
+
+-- at the next point
+module _ (U : ℕ → ℕ) (Ω : List Lot) (ok : Lawful max_capacity Ω) (a r l : ℕ) (p : Point) (ps : List Point) (w : Walks U Ω p.minute a r l (p ∷ ps)) where
+  module _ (a' r' : ℕ) (is_a : pos a' ≡ pos a +ℤ p.available) (is_r : pos r' ≡ pos r +ℤ p.required) where
+    pub walks_over : Walks U Ω p.minute a' r' l ps
+    walks_over =
+        let there_a = next_available U Ω ok p.minute a r l p ps w in
+        let there_r = next_required U Ω ok p.minute a r l p ps w in
+        record {
+          rising = rising_tail p ps w.rising;
+          ahead = All-weaker _ _ (λ q g. omega arith) ps (rising_ahead p ps w.rising);
+          inside = w.inside.1;
+          reached = w.reached;
+          covers = λ t h. w.covers t h ∙ ap (λ b. b || has t (minutes_of ps)) (ne_eqb t p.minute (omega arith));
+          available = level_on (λ q. q.available) (profile.available Ω) p.minute a p ps w.rising w.ahead.0 w.available a' is_a;
+          required = level_on (λ q. q.required) (creq Ω) p.minute r p ps w.rising w.ahead.0 w.required r' is_r;
+          left = w.left;
+          available_few = omega (arith, ints, is_a, there_a, next_available_few U Ω ok p.minute a r l p ps w);
+          required_few = omega (arith, ints, is_r, there_r, next_required_few U Ω ok p.minute a r l p ps w);
+        }
 
 latest_has : (Ω : List Lot) → 0 < latest Ω → has (latest Ω) (minutes Ω) ≡ true
 latest_has [] h = absurd (omega arith)
@@ -166,15 +189,15 @@ minutes_inside C t (x ∷ xs) ok h = elim (or_cases (eqb t x.est) _ h) [
   ]
 ]
 
-rest_most : (C : ℕ) (Ω : List Lot) → Lawful max_capacity Ω → (t : ℕ) → rest C Ω t ≤ max_capacity * max_lots * t
-rest_most C Ω ok zero = omega arith
-rest_most C Ω ok (suc t) = omega (arith, rest_most C Ω ok t, creq_most t Ω ok.each, ok.few_lots)
+rest_most : (U : ℕ → ℕ) (Ω : List Lot) → Lawful max_capacity Ω → (t : ℕ) → rest U Ω t ≤ max_capacity * max_lots * t
+rest_most U Ω ok zero = omega arith
+rest_most U Ω ok (suc t) = omega (arith, rest_most U Ω ok t, creq_most t Ω ok.each, ok.few_lots)
 
 abbrev nowhere : Point
 nowhere = record { minute = 0; available = pos 0; required = pos 0 }
 
-module _ (C : ℕ) (Ω : List Lot) (ok : Lawful max_capacity Ω) where
-  pub walks_from : (ps : List Point) → Profiles ps Ω → Walks C Ω 0 0 0 0 ps
+module _ (U : ℕ → ℕ) (Ω : List Lot) (ok : Lawful max_capacity Ω) where
+  pub walks_from : (ps : List Point) → Profiles ps Ω → Walks U Ω 0 0 0 0 ps
   walks_from ps p = record {
     rising = p.rising;
     ahead = All-from_get_or (λ q. 0 ≤ q.minute) ps nowhere (λ i h. omega arith);
@@ -189,21 +212,39 @@ module _ (C : ℕ) (Ω : List Lot) (ok : Lawful max_capacity Ω) where
   }
 
   module _ (m a r l : ℕ) where
-    walks_to : Walks C Ω m a r l [] → l ≡ overflow C Ω
+    walks_to : Walks U Ω m a r l [] → l ≡ rest U Ω (latest Ω)
     walks_to w =
         let there : m ≡ latest Ω = elim (cases_lt m (latest Ω)) [
           | inl h ↦ absurd (both_ways _ (w.covers (latest Ω) h) (latest_has Ω (omega arith)))
           | inr h ↦ omega (arith, w.reached)
         ] in
-        let fits = All-weaker _ _ (λ (x : Lot) (f : LawfulLot max_capacity x). omega (arith, f.has_time)) Ω ok.each in
-        w.left ∙ ap (rest C Ω) there ∙ sym (overflow_rest C Ω fits)
+        w.left ∙ ap (rest U Ω) there
 
-    pub left_few : (ps : List Point) → Walks C Ω m a r l ps → l ≤ max_capacity * max_lots * horizon
-    left_few ps w = omega (arith, w.left, w.reached, rest_most C Ω ok m, latest_in_week max_capacity Ω ok.each)
+    pub left_few : (ps : List Point) → Walks U Ω m a r l ps → l ≤ max_capacity * max_lots * horizon
+    left_few ps w = omega (arith, w.left, w.reached, rest_most U Ω ok m, latest_in_week max_capacity Ω ok.each)
 
     -- the next point, where the loop has it
-    pub walks_at : (ps : List Point) (i : ℕ) → i < length ps → Walks C Ω m a r l (drop i ps) → Walks C Ω m a r l (point_at ps i ∷ drop (i + 1) ps)
-    walks_at ps i h = subst (Walks C Ω m a r l) (drop_more ps i _ h)
+    pub walks_at : (ps : List Point) (i : ℕ) → i < length ps → Walks U Ω m a r l (drop i ps) → Walks U Ω m a r l (point_at ps i ∷ drop (i + 1) ps)
+    walks_at ps i h = subst (Walks U Ω m a r l) (drop_more ps i _ h)
 
-    pub walks_done : (ps : List Point) (i : ℕ) → length ps ≤ i → Walks C Ω m a r l (drop i ps) → l ≡ overflow C Ω
-    walks_done ps i h w = walks_to (subst (Walks C Ω m a r l) (drop_all i ps h) w)
+    walks_done : (ps : List Point) (i : ℕ) → length ps ≤ i → Walks U Ω m a r l (drop i ps) → l ≡ rest U Ω (latest Ω)
+    walks_done ps i h w = walks_to (subst (Walks U Ω m a r l) (drop_all i ps h) w)
+
+-- beside a run that keeps c of C trays until u
+module _ (C c u : ℕ) (fits : c ≤ C) (Ω : List Lot) (ok : Lawful max_capacity Ω) (m a r l : ℕ) where
+  pub walked : (ps : List Point) (i : ℕ) → length ps ≤ i → Walks (usable C c u) Ω m a r l (drop i ps) → l ≡ overflow C (Ω ++ kept c u Ω)
+  walked ps i h w =
+      let ends = All-weaker _ _ (λ (x : Lot) (f : LawfulLot max_capacity x). f.has_time) Ω ok.each in
+      walks_done (usable C c u) Ω ok m a r l ps i h w ∙ sym (overflow_kept C c u fits Ω ends)
+
+  -- one step: up to u under fewer trays, and from there under all
+  module _ (p : Point) (ps : List Point) (w : Walks (usable C c u) Ω m a r l (p ∷ ps)) (n : ℕ) (is_n : n ≡ min (max u m) p.minute) where
+    pub first_part : (l' : ℕ) → l' ≡ (l + (n - m) * r) - (n - m) * min a (C - c) → Walks (usable C c u) Ω n a r l' (p ∷ ps)
+    first_part l' =
+        walks_on (usable C c u) Ω ok m a r l p ps w n (C - c) l' (omega (arith, w.ahead.0)) (omega arith)
+        (λ t h k. usable_before C c u t (omega arith))
+
+    pub second_part : (l' : ℕ) → Walks (usable C c u) Ω n a r l' (p ∷ ps) → (l'' : ℕ) → l'' ≡ (l' + (p.minute - n) * r) - (p.minute - n) * min a C → Walks (usable C c u) Ω p.minute a r l'' (p ∷ ps)
+    second_part l' v l'' =
+        walks_on (usable C c u) Ω ok n a r l' p ps v p.minute C l'' (omega arith) (omega arith)
+        (λ t h k. usable_after C c u t (omega arith))

@@ -5,13 +5,13 @@ ghost use Rattle.std.specs.Prelude.{Ok};
 ghost use Rattle.elastic.specs.Overflow.{Answered, FewPoints, NoneIfSchedulable};
 
 use lots::{Lot, Refusal, Table};
-use profile::Profile;
 
 mod array_row;
 mod profile;
 mod row;
 
 pub use array_row::ArrayRow;
+pub use profile::Profile;
 pub use row::{Keyed, Place, Row};
 
 // The work that is left over at the latest lct of a table, and the number of points of its profile: a pair, by a rule of the project.
@@ -20,8 +20,7 @@ pub fn overflow_of(table: Table<'_>) -> (u32, usize)
     ensures points { FewPoints table.entry.lots.now (Ok result) }
     ensures sound { NoneIfSchedulable table.entry.capacity table.entry.lots.now (Ok result) }
 {
-    let profile = Profile::of(table);
-    (profile.overflow(), profile.len())
+    Profile::of(table).overflow()
 }
 
 // The overflow and the number of points of any lots and capacity, apart, since it refuses those that are no lawful table.
@@ -120,6 +119,36 @@ mod tests {
         };
         assert_eq!(rt; overflow(2, &[early, whole]), Ok((1, 3)));
         assert_eq!(rt; overflow(2, &[early, whole, late]), Ok((0, 4)));
+    }
+
+    #[test]
+    fn lots_come_in_at_any_time_and_once(rt: HostRuntime) {
+        let lots = [FULL, LONG];
+        let table = Table::new(2, &lots).expect(&rt, "the table is lawful");
+        let mut profile = Profile::new(table);
+        assert_eq!(rt; profile.overflow(), (0, 0));
+        profile.add(1);
+        profile.add(1);
+        profile.add(2);
+        assert_eq!(rt; profile.overflow(), (0, 3));
+        profile.add(0);
+        assert_eq!(rt; profile.overflow(), (1, 4));
+    }
+
+    #[test]
+    fn a_run_beside_keeps_its_trays_until_it_ends(rt: HostRuntime) {
+        let first = Lot {
+            lct: 5,
+            p: 3,
+            ..LONG
+        };
+        let lots = [first, Lot { lct: 9, ..first }];
+        let table = Table::new(1, &lots).expect(&rt, "the table is lawful");
+        let mut profile = Profile::new(table);
+        profile.add(0);
+        assert_eq!(rt; profile.overflow_beside(1, 3), (1, 3));
+        assert_eq!(rt; profile.overflow_beside(1, 2), (0, 3));
+        assert_eq!(rt; profile.overflow_beside(2, 3), (0, 3));
     }
 
     #[test]

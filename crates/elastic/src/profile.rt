@@ -1,11 +1,12 @@
 // The points of an elastic profile: the minutes at which it changes, and by how much.
-ghost use Rattle.std.specs.Prelude.{◌≡◌, ◌+◌, ◌-◌, ◌*◌, ◌<◌, ◌≤◌, min, List, [], ◌∷◌, ◌++◌, length, pos, ◌+ℤ◌, ◌≤ℤ◌, slice_set};
+ghost use Rattle.std.specs.Prelude.{◌≡◌, ◌+◌, ◌-◌, ◌*◌, ◌<◌, ◌≤◌, min, ℕ, false, ◌&&◌, ◌||◌, ◌==◌, nat_lt, List, ◌∷◌, ◌++◌, length, slice_index_or, pos, ◌+ℤ◌, ◌≤ℤ◌, slice_set};
 ghost use Rattle.std.specs.List.{AllByRecursion};
 ghost use Rattle.lots.specs.Limits.{horizon, max_capacity, max_lots};
-ghost use Rattle.lots.specs.Tables.{LawfulLot, Lawful};
+ghost use Rattle.lots.specs.Tables.{lot_at, LawfulLot, Lawful};
 ghost use Rattle.lots.specs.declared.Lot.{Lot};
 ghost use Rattle.elastic.specs.Points.{at_est, at_ect, at_lct, Small, Entered, Profiles, point_at, altered, max_points};
-ghost use Rattle.elastic.specs.Profile.{overflow as left_over};
+ghost use Rattle.elastic.specs.Profile.{overflow as left_over, points as points_of};
+ghost use Rattle.elastic.specs.Parts.{those, kept};
 ghost use Rattle.std.proofs.Props.{props};
 
 use crate::array_row::ArrayRow;
@@ -115,11 +116,11 @@ impl Points {
         }
     }
 
-    // Adds a lot to the list whose profile this is.
+    // Adds a lot to the list whose profile this is, at any place.
     fn add(&mut self, lot: &Lot)
         requires lawful { LawfulLot max_capacity lot.now }
         requires profile { (Ω : List Lot) × (length Ω < max_lots) × Profiles self.old.row Ω }
-        ensures { (Ω : List Lot) → Profiles self.old.row Ω → Profiles self.new.row (Ω ++ lot.now ∷ []) }
+        ensures { (Ω Ψ : List Lot) → Profiles self.old.row (Ω ++ Ψ) → Profiles self.new.row (Ω ++ lot.now ∷ Ψ) }
     {
         self.enter(Point::at_est(lot));
         self.enter(Point::at_ect(lot));
@@ -127,53 +128,97 @@ impl Points {
     }
 }
 
-// The profile of a table.
+// The profile of some lots of a table: of those that were added.
 #[derive(Drop)]
-pub(crate) struct Profile<'a> {
+pub struct Profile<'a> {
     table: Table<'a>,
+    added: [bool; MAX_LOTS],
     points: Points,
-    ghost profiles: { Profiles points.row table.lots.now } by { Prim.hlevel props },
+    ghost profiles: { Profiles points.row (those added table.lots.now) } by { Prim.hlevel props },
 }
 
 impl<'a> Profile<'a> {
-    pub(crate) fn of(table: Table<'a>) -> Profile<'a>
-        ensures { result.table ≡ table.entry }
+    // The profile of none of the lots.
+    pub fn new(table: Table<'a>) -> Profile<'a>
+        ensures table { result.table ≡ table.entry }
+        ensures none { (k : ℕ) → slice_index_or result.added k false ≡ false }
     {
-        let mut points = Points {
-            row: ArrayRow::new(),
-        };
-        for lot in table.lots {
-            points.add(lot);
+        Profile {
+            table,
+            added: [false; MAX_LOTS],
+            points: Points {
+                row: ArrayRow::new(),
+            },
         }
-        Profile { table, points }
     }
 
-    // How many points the profile has.
-    pub(crate) fn len(&self) -> usize
-        ensures { result ≡ length self.now.points.row }
+    // The profile of all lots.
+    pub fn of(table: Table<'a>) -> Profile<'a>
+        ensures table { result.table ≡ table.entry }
+        ensures all { those result.added table.entry.lots.now ≡ table.entry.lots.now }
     {
-        self.points.row.as_slice().len()
+        let mut profile = Profile::new(table);
+        for number in 0..table.lots.len() {
+            profile.add(number);
+        }
+        profile
     }
 
-    // What is left over at the last point.
-    pub(crate) fn overflow(&self) -> u32
-        ensures { result ≡ left_over self.now.table.capacity self.now.table.lots.now }
+    // Adds the lot of a number, where there is one and it was not added yet.
+    pub fn add(&mut self, number: usize)
+        ensures table { self.new.table ≡ self.old.table }
+        ensures added { (k : ℕ) → slice_index_or self.new.added k false ≡ (slice_index_or self.old.added k false || (k == number && nat_lt number (length self.old.table.lots.now))) }
     {
-        walk(self.points.row.as_slice(), self.table.capacity)
+        let lots = self.table.lots;
+        if number < lots.len() && !self.added[number] {
+            self.added[number] = true;
+            self.points.add(&lots[number]);
+        }
+    }
+
+    // What is left over at the last point, and the number of points.
+    pub fn overflow(&self) -> (u32, usize)
+        ensures left { result.0 ≡ left_over self.now.table.capacity (those self.now.added self.now.table.lots.now) }
+        ensures points { result.1 ≡ points_of (those self.now.added self.now.table.lots.now) }
+    {
+        let points = self.points.row.as_slice();
+        (walk(points, self.table.capacity, 0, 0), points.len())
+    }
+
+    // The trays of the lot of a number, and none where there is no such lot.
+    fn trays(&self, number: usize) -> u16
+        ensures { result ≡ (lot_at self.now.table.lots.now number).c }
+    {
+        self.table.lots.get(number).map_or(0, |lot| lot.c)
+    }
+
+    // The same beside a run that keeps the trays of the lot of a number from the first point on until a minute. The run
+    // has no points.
+    pub fn overflow_beside(&self, number: usize, until: u16) -> (u32, usize)
+        ensures left { let some = those self.now.added self.now.table.lots.now in result.0 ≡ left_over self.now.table.capacity (some ++ kept (lot_at self.now.table.lots.now number).c until some) }
+        ensures points { result.1 ≡ points_of (those self.now.added self.now.table.lots.now) }
+    {
+        let points = self.points.row.as_slice();
+        let left = walk(points, self.table.capacity, self.trays(number), until);
+        (left, points.len())
     }
 }
 
-// What is left over at the last of the points. The four numbers are one step's; a struct of them would be taken apart at once.
-fn walk(points: &[Point], capacity: u16) -> u32
-    requires { (Ω : List Lot) × Lawful max_capacity Ω × Profiles points.now Ω }
-    ensures { (Ω : List Lot) → Lawful max_capacity Ω → Profiles points.now Ω → result ≡ left_over capacity Ω }
+// What is left over at the last of the points, beside a run that keeps some trays until a minute: up to then so many fewer
+// can be in use, and before the first point none is. The four numbers are one step's; a struct of them would be taken apart at once.
+fn walk(points: &[Point], capacity: u16, trays: u16, until: u16) -> u32
+    requires profile { (Ω : List Lot) × Lawful max_capacity Ω × Profiles points.now Ω }
+    requires fits { trays ≤ capacity }
+    ensures { (Ω : List Lot) → Lawful max_capacity Ω → Profiles points.now Ω → result ≡ left_over capacity (Ω ++ kept trays until Ω) }
 {
     let mut left = 0;
     let mut minute = 0;
     let mut available = 0;
     let mut required = 0;
     for point in points {
-        left = left_after(left, point.minute - minute, available, required, capacity);
+        let middle = until.max(minute).min(point.minute);
+        left = left_after(left, middle - minute, available, required, capacity - trays);
+        left = left_after(left, point.minute - middle, available, required, capacity);
         minute = point.minute;
         available = changed(available, point.available);
         required = changed(required, point.required);
@@ -200,5 +245,5 @@ fn changed(trays: u32, change: i32) -> u32
     requires not_above { (pos trays +ℤ change) ≤ℤ pos (max_capacity * max_lots) }
     ensures { pos result ≡ pos trays +ℤ change }
 {
-    trays.saturating_add_signed(change)
+    (trays as i32 + change) as u32
 }

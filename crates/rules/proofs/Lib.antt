@@ -3,3 +3,4 @@ pub mod Chains
 pub mod Loads
 pub mod Raised
 pub mod Bounds
+pub mod GrowingCuts

@@ -3,5 +3,6 @@ pub mod Cuts
 pub mod Overload
 pub mod TimeTable
 pub mod NotFirst
+pub mod GrowingCuts
 pub mod House
 pub mod Laws

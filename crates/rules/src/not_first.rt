@@ -1,55 +1,26 @@
 // Raises the earliest start of a lot that cannot start before some others have ended.
-ghost use Rattle.std.specs.Prelude.{◌≡◌, ℕ, ◌<◌, ◌≤◌, min, ◌++◌, length, slice_index};
-ghost use Rattle.lots.specs.Limits.{horizon, max_lots};
-ghost use Rattle.lots.specs.Tables.{ect as earliest_end, lot_at};
-ghost use Rattle.elastic.specs.Profile.{earliest, has};
+ghost use Rattle.std.specs.Cmp.{nat_cmp_total};
+ghost use Rattle.std.specs.Prelude.{◌≡◌, ℕ, ◌<◌, length, slice_index};
+ghost use Rattle.lots.specs.Tables.{lot_at};
+ghost use Rattle.elastic.specs.Profile.{has};
+ghost use Rattle.elastic.specs.Rows.{Ascending};
 ghost use Rattle.rules.specs.Cuts.{ends_of, cut_ends};
-ghost use Rattle.rules.specs.NotFirst.{in_cut, cut as the_cut, least_ect, stand_in, end_bound, greatest_end_bound, not_first as starts_after_some};
+ghost use Rattle.rules.specs.NotFirst.{in_cut, cut as the_cut, least_ect, end_bound, greatest_end_bound, not_first as starts_after_some};
+ghost use Rattle.rules.specs.GrowingCuts.{Inside, Marks};
 ghost use Rattle.rules.specs.Laws.NotFirstSound.{not_first_sound};
 
-use crate::chosen::{chosen, is_overfull};
+use crate::chosen::chosen;
 use crate::cuts::{Cut, cuts_of};
 use arrayvec::ArrayVec;
+use elastic::{ArrayRow, Profile};
 use lots::{Lot, MAX_LOTS, Refusal, Table};
 use rule::{Rule, Verdict, raise};
 
-// The least est, and 0 without lots, as it is defined.
-fn earliest_start(lots: &[Lot]) -> u16
-    ensures { result ≡ earliest lots.now }
-{
-    lots.iter().map(|lot| lot.est).min().unwrap_or(0)
-}
-
-// The least ect, and 0 without lots, as it is defined. One function for both, by a key, would be longer than the two.
+// The least ect, and 0 without lots, as it is defined.
 fn least_end(lots: &[Lot]) -> u32
     ensures { result ≡ least_ect lots.now }
 {
     lots.iter().map(|lot| lot.ect()).min().unwrap_or(0)
-}
-
-// Whether some lot must be out by the very minute.
-fn has_end(lots: &[Lot], minute: u16) -> bool
-    ensures { result ≡ has minute (ends_of lots.now) }
-{
-    lots.iter().any(|lot| minute == lot.lct)
-}
-
-// Adds what stands in for the lot beside the cut.
-fn add_stand_in(cut: &mut ArrayVec<Lot, MAX_LOTS>, lot: &Lot, minute: u16)
-    requires few { length cut.old.items < max_lots }
-    requires fits { earliest_end lot.now ≤ horizon }
-    ensures { cut.new.items ≡ cut.old.items ++ stand_in lot.now (min (earliest_end lot.now) minute) cut.old.items }
-{
-    let first = earliest_start(cut.as_slice());
-    let end = (lot.est + lot.p).min(minute);
-    if first < end {
-        cut.push(Lot {
-            est: first,
-            lct: end,
-            p: end - first,
-            c: lot.c,
-        });
-    }
 }
 
 // One lot of a table, of which is asked whether it can start before some others have ended.
@@ -76,8 +47,7 @@ impl Candidate<'_> {
 
     // The lots of which that holds.
     fn cut(self, minute: u16) -> ArrayVec<Lot, MAX_LOTS>
-        ensures cut { result.items ≡ the_cut self.entry.table.lots.now self.entry.number minute }
-        ensures fewer { length result.items < length self.entry.table.lots.now }
+        ensures { result.items ≡ the_cut self.entry.table.lots.now self.entry.number minute }
     {
         chosen(
             self.table,
@@ -85,42 +55,69 @@ impl Candidate<'_> {
         )
     }
 
-    // The bound that a latest end puts on its est. 0 where it puts none, which is no bound, and so no `Option`.
-    fn bound_at(self, minute: u16) -> u16
-        ensures { result ≡ end_bound self.entry.table.capacity self.entry.table.lots.now self.entry.number minute }
+    // Whether one of them must be out by that very minute.
+    fn ends_at(self, minute: u16) -> bool
+        ensures { result ≡ has minute (ends_of (the_cut self.entry.table.lots.now self.entry.number minute)) }
     {
-        let mut cut = self.cut(minute);
-        if !has_end(cut.as_slice(), minute) {
-            return 0;
-        }
-        let least = least_end(cut.as_slice());
-        add_stand_in(&mut cut, &self.lot(), minute);
-        let with_stand_in = Table {
-            capacity: self.table.capacity,
-            lots: cut.as_slice(),
-        };
-        if is_overfull(with_stand_in) {
-            least as u16
-        } else {
-            0
+        self.table.lots.iter().enumerate().any(|(number, lot)| minute == lot.lct
+            && self.is_in_cut(number, lot, minute))
+    }
+
+    // Adds the others of them to the profile of some.
+    fn grow(self, profile: &mut Profile<'_>, minute: u16)
+        requires table { profile.old.table ≡ self.table }
+        requires inside { Inside self.table.lots.now self.number minute profile.old.added }
+        ensures table { profile.new.table ≡ self.entry.table }
+        ensures cut { Marks self.entry.table.lots.now self.entry.number minute profile.new.added }
+    {
+        for (number, lot) in self.table.lots.iter().enumerate() {
+            if self.is_in_cut(number, lot, minute) {
+                profile.add(number);
+            }
         }
     }
 
-    // The greatest bound that the latest ends of the cuts put on its est. 0 without cuts, which is no bound, and so no `Option`.
+    // The bound that a latest end puts on its est. 0 where it puts none, which is no bound, and so no `Option`.
+    fn bound_at(self, profile: &mut Profile<'_>, minute: u16) -> u16
+        requires table { profile.old.table ≡ self.table }
+        requires inside { Inside self.table.lots.now self.number minute profile.old.added }
+        ensures table { profile.new.table ≡ self.entry.table }
+        ensures inside { Inside self.entry.table.lots.now self.entry.number minute profile.new.added }
+        ensures bound { result ≡ end_bound self.entry.table.capacity self.entry.table.lots.now self.entry.number minute }
+    {
+        if !self.ends_at(minute) {
+            return 0;
+        }
+        self.grow(profile, minute);
+        let lot = self.lot();
+        let end = (lot.est + lot.p).min(minute);
+        let (left, _points) = profile.overflow_beside(self.number, end);
+        if left == 0 {
+            return 0;
+        }
+        least_end(self.cut(minute).as_slice()) as u16
+    }
+
+    // The greatest bound that the latest ends of the cuts put on its est. 0 without cuts, which is no bound, and so no
+    // `Option`. The cut up to a later end has all lots of an earlier one, so one profile grows from end to end.
     fn bound(self, cuts: &[Cut]) -> u16
+        requires { Ascending nat_cmp_total (λ x. x.lct) cuts.now }
         ensures { result ≡ greatest_end_bound self.entry.table.capacity self.entry.table.lots.now self.entry.number (cut_ends cuts.now) }
     {
-        cuts.iter()
-            .map(|cut| self.bound_at(cut.lct))
-            .max()
-            .unwrap_or(0)
+        let mut profile = Profile::new(self.table);
+        let mut bound = 0;
+        for cut in cuts {
+            bound = bound.max(self.bound_at(&mut profile, cut.lct));
+        }
+        bound
     }
 }
 
 // The new bounds of the lots, by number. The loop over the lots with their numbers is a rule of the project for each of the two rules that raise starts.
-fn bounds_of(table: Table<'_>, cuts: &[Cut]) -> [u16; MAX_LOTS]
+fn bounds_of(table: Table<'_>, cuts: &ArrayRow<Cut, MAX_LOTS>) -> [u16; MAX_LOTS]
     ensures { (i : ℕ) → i < length table.entry.lots.now → slice_index result i ≡ greatest_end_bound table.entry.capacity table.entry.lots.now i (cut_ends cuts.now) }
 {
+    let cuts = cuts.as_slice();
     // An array: 0 past the last lot is no bound.
     let mut bounds = [0; MAX_LOTS];
     for (number, _) in table.lots.iter().enumerate() {
@@ -140,7 +137,7 @@ impl Rule for NotFirst {
     fn apply(&self, capacity: u16, lots: &mut [Lot]) -> Result<Verdict, Refusal> {
         let table = Table::new(capacity, lots)?;
         let cuts = cuts_of(table);
-        let bounds = bounds_of(table, cuts.as_slice());
+        let bounds = bounds_of(table, &cuts);
         Ok(raise(lots, &bounds))
     }
 }

@@ -1,12 +1,13 @@
 -- What holds of a table holds of some of its lots.
-use Rattle.std.specs.Prelude.{◌≡◌, ℕ, zero, suc, ◌+◌, ◌<◌, ◌≤◌, Bool, true, false, cond, List, [], ◌∷◌, ◌++◌, length, take, refl}
-use Rattle.std.proofs.Common.{sym, ap, subst, ◌∙◌, zero-add, add-zero, arith}
+use Rattle.std.specs.Prelude.{◌≡◌, ℕ, suc, ◌+◌, ◌<◌, ◌≤◌, Bool, true, false, cond, List, [], ◌∷◌, ◌++◌, length, take}
+use Rattle.std.proofs.Common.{sym, ap, ◌∙◌, zero-add, add-zero, arith}
 use Rattle.std.specs.List.{AllByRecursion}
 use Rattle.std.proofs.lemmas.List.{append-nil, take_more, length-take-le}
 use Rattle.std.proofs.lemmas.Bool.{cond_both}
 use Rattle.lots.specs.Schedules.{spans, load, Placed, Schedule}
 use Rattle.lots.specs.Tables.{lot_at, LawfulLot, Lawful}
 use Rattle.lots.specs.declared.Lot.{Lot}
+use Rattle.elastic.proofs.Parts.{cond_append}
 use Rattle.rules.specs.Chosen.{chosen}
 
 module _ (test : ℕ → Lot → Bool) where
@@ -45,20 +46,9 @@ module _ (test : ℕ → Lot → Bool) where
   chosen_each P k [] h = tt
   chosen_each P k (x ∷ xs) h = cond_both (test k x) (x ∷ chosen test (suc k) xs) (chosen test (suc k) xs) (AllByRecursion P) (λ e. (h.0, chosen_each P (suc k) xs h.1)) (λ e. chosen_each P (suc k) xs h.1)
 
-  pub chosen_few : (k : ℕ) (T : List Lot) → length (chosen test k T) ≤ length T
+  chosen_few : (k : ℕ) (T : List Lot) → length (chosen test k T) ≤ length T
   chosen_few k [] = omega arith
   chosen_few k (x ∷ xs) = cond_both (test k x) (x ∷ chosen test (suc k) xs) (chosen test (suc k) xs) (λ ys. length ys ≤ suc (length xs)) (λ e. omega (arith, chosen_few (suc k) xs)) (λ e. omega (arith, chosen_few (suc k) xs))
-
-  -- a lot that is not chosen makes the chosen ones fewer
-  pub chosen_fewer : (k i : ℕ) (T : List Lot) → i < length T → test (k + i) (lot_at T i) ≡ false → length (chosen test k T) < length T
-  chosen_fewer k i [] h out = absurd (omega arith)
-  chosen_fewer k zero (x ∷ xs) h out =
-      let none = subst (λ n. test n x ≡ false) (add-zero k) out in
-      let left = ap (λ b. length (cond b (x ∷ chosen test (suc k) xs) (chosen test (suc k) xs))) none in
-      omega (arith, left, chosen_few (suc k) xs)
-  chosen_fewer k (suc i) (x ∷ xs) h out =
-      let rest = chosen_fewer (suc k) i xs (omega arith) (subst (λ n. test n (lot_at xs i) ≡ false) (omega arith) out) in
-      cond_both (test k x) (x ∷ chosen test (suc k) xs) (chosen test (suc k) xs) (λ ys. length ys < suc (length xs)) (λ e. omega (arith, rest)) (λ e. omega (arith, rest))
 
   pub chosen_lawful : (C : ℕ) (T : List Lot) → Lawful C T → Lawful C (chosen test 0 T)
   chosen_lawful C T ok = record {
@@ -69,10 +59,6 @@ module _ (test : ℕ → Lot → Bool) where
   }
 
   -- the loop that gathers, one lot more
-  cond_append : (b : Bool) (x : Lot) (xs ys : List Lot) → cond b (x ∷ (xs ++ ys)) (xs ++ ys) ≡ cond b (x ∷ xs) xs ++ ys
-  cond_append true x xs ys = refl
-  cond_append false x xs ys = refl
-
   chosen_push : (k : ℕ) (T : List Lot) (x : Lot) → chosen test k (T ++ (x ∷ [])) ≡ chosen test k T ++ cond (test (k + length T) x) (x ∷ []) []
   chosen_push k [] x = ap (λ n. cond (test n x) (x ∷ []) []) (sym (add-zero k))
   chosen_push k (y ∷ ys) x =

@@ -2,8 +2,8 @@
 use Rattle.std.specs.Prelude.{◌≡◌, ℕ, zero, suc, ◌+◌, ◌-◌, ◌<◌, ◌≤◌, min, Bool, true, false, cond, not, ◌&&◌, List, [], ◌∷◌, ◌++◌, length, ◌==◌, nat_le, nat_lt, slice_index, slice_index_or, refl}
 use Rattle.std.proofs.Common.{inl, inr, sym, ap, subst, add-zero, zero-add, arith}
 use Rattle.std.specs.List.{AllByRecursion}
-use Rattle.std.proofs.ByRecursion.{All-get_or, All-append}
-use Rattle.std.proofs.lemmas.List.{append-nil, length-append}
+use Rattle.std.proofs.ByRecursion.{All-get_or}
+use Rattle.std.proofs.lemmas.List.{append-nil}
 use Rattle.std.proofs.lemmas.Bool.{eq-eqb, cases_lt, and_parts, ltb-true, leb-false}
 use Rattle.std.proofs.lemmas.Bool.Decides.{nat_tests}
 use Rattle.lots.specs.Limits.{horizon}
@@ -16,7 +16,7 @@ use Rattle.rule.specs.Meanings.{Sound}
 use Rattle.rule.proofs.Raises.{raise_lawful, raise_narrows, raise_keeps, raise_dies}
 use Rattle.rules.specs.Chosen.{chosen, overfull}
 use Rattle.rules.specs.NotFirst.{in_cut, cut, least_ect, with_stand_in, bound_by, greatest_bound, not_first}
-use Rattle.rules.specs.Laws.ChosenLots.{starts, load_cond, chosen_placed, chosen_load, chosen_schedule, chosen_fewer, chosen_lawful}
+use Rattle.rules.specs.Laws.ChosenLots.{starts, load_cond, chosen_placed, chosen_load, chosen_schedule, chosen_each}
 
 -- two lists of lots, each with its starts
 placed_append : (xs ys : List Lot) (ss us : List ℕ) → Placed xs ss → Placed ys us → Placed (xs ++ ys) (ss ++ us)
@@ -154,50 +154,12 @@ not_first_sound = record {
   dies_rightly = λ C T ok. raise_dies (λ i. greatest_bound C T i (length T)) C T ok (λ ss s i h. greatest_kept C T ok ss s i h (length T));
 }
 
--- the cut with its stand-in is a lawful table
-module _ (C : ℕ) (T : List Lot) (ok : Lawful C T) (i : ℕ) (h : i < length T) (t : ℕ) where
-  out_of_cut : in_cut i (lot_at T i).est t (0 + i) (lot_at T i) ≡ false
-  out_of_cut = subst (λ n. in_cut i (lot_at T i).est t n (lot_at T i) ≡ false) (sym (zero-add i)) (own_test T i t)
-
-  pub cut_fewer : length (cut T i t) < length T
-  cut_fewer = chosen_fewer (in_cut i (lot_at T i).est t) 0 i T h out_of_cut
-
-  lot_lawful : LawfulLot C (lot_at T i)
-  lot_lawful = All-get_or (LawfulLot C) T i _ h ok.each
-
-  pub lot_ends : ect (lot_at T i) ≤ horizon
-  lot_ends = omega (arith, lot_lawful.has_time, lot_lawful.in_week)
-
-  cut_lawful : Lawful C (cut T i t)
-  cut_lawful = chosen_lawful (in_cut i (lot_at T i).est t) C T ok
-
+-- the least ect of a cut lies in the week
+module _ (C : ℕ) where
   least_in_week : (Ω : List Lot) → AllByRecursion (LawfulLot C) Ω → least_ect Ω ≤ horizon
   least_in_week [] a = omega arith
   least_in_week (x ∷ []) a = omega (arith, a.0.has_time, a.0.in_week)
   least_in_week (x ∷ (y ∷ ys)) a = omega (arith, a.0.has_time, a.0.in_week)
 
-  pub cut_least : least_ect (cut T i t) ≤ horizon
-  cut_least = least_in_week (cut T i t) cut_lawful.each
-
-  stand_lawful : (m : ℕ) (b : Bool) → m ≤ horizon → nat_le m (earliest (cut T i t)) ≡ b → Lawful C (cut T i t ++ cond b [] (record { est = earliest (cut T i t); lct = m; p = m - earliest (cut T i t); c = (lot_at T i).c } ∷ []))
-  stand_lawful m true k e = subst (Lawful C) (sym (append-nil (cut T i t))) cut_lawful
-  stand_lawful m false k e =
-      let later = leb-false m (earliest (cut T i t)) e in
-      record {
-        some_trays = ok.some_trays;
-        few_trays = ok.few_trays;
-        few_lots = omega (arith, length-append (cut T i t) (record { est = earliest (cut T i t); lct = m; p = m - earliest (cut T i t); c = (lot_at T i).c } ∷ []), cut_fewer, ok.few_lots);
-        each = All-append (LawfulLot C) (cut T i t) _ cut_lawful.each (
-          record {
-            runs = omega arith;
-            takes_trays = lot_lawful.takes_trays;
-            has_trays = lot_lawful.has_trays;
-            has_time = omega arith;
-            in_week = k;
-          },
-          tt,
-        );
-      }
-
-  pub with_stand_in_lawful : Lawful C (with_stand_in T i t)
-  with_stand_in_lawful = stand_lawful (min (ect (lot_at T i)) t) (nat_le (min (ect (lot_at T i)) t) (earliest (cut T i t))) (omega (arith, lot_ends)) refl
+  pub cut_least : (T : List Lot) → Lawful C T → (i t : ℕ) → least_ect (cut T i t) ≤ horizon
+  cut_least T ok i t = least_in_week (cut T i t) (chosen_each (in_cut i (lot_at T i).est t) (LawfulLot C) 0 T ok.each)

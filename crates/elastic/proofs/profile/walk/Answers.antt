@@ -1,24 +1,32 @@
-use Rattle.std.proofs.Common.{arith}
+use Rattle.std.proofs.Common.{◌≡◌, min, max, arith}
 use Rattle.std.proofs.lemmas.Int.{ints}
-use Rattle.elastic.proofs.Walks.{walks_from, walks_at, walks_done, walks_on, left_few, next_later, next_in_week, next_available, next_required, next_available_few, next_required_few}
+use Rattle.elastic.specs.Points.{point_at}
+use Rattle.elastic.proofs.Walks.{walks_from, walks_at, walked, first_part, second_part, walks_over, left_few, next_in_week, next_available, next_required, next_available_few, next_required_few}
 use Rattle.elastic.proofs.profile.walk.Goals as goal
 
 pub loop-point-init : goal.loop-point-init
-loop-point-init c = λ Ω ok p. walks_from c.args.capacity Ω ok _ p
-
-pub overflow_sub-point : goal.overflow_sub-point
-overflow_sub-point c =
-    let ok = c.requires.1 in
-    let w = walks_at _ _ ok _ _ _ _ _ _ c.loop-point-test.true (c.loop-point.invariant _ ok c.requires.2) in
-    next_later _ _ ok _ _ _ _ _ _ w
+loop-point-init c = λ Ω ok p. walks_from _ Ω ok _ p
 
 pub left_after-left-requires : goal.left_after-left-requires
 left_after-left-requires c =
-    let ok = c.requires.1 in
-    let at = c.loop-point.invariant _ ok c.requires.2 in
+    let ok = c.requires.profile.1 in
+    let at = c.loop-point.invariant _ ok c.requires.profile.2 in
     let w = walks_at _ _ ok _ _ _ _ _ _ c.loop-point-test.true at in
     record {
       left_few = left_few _ _ ok _ _ _ _ _ at;
+      span_short = omega (arith, c.min-middle.ensures, next_in_week _ _ ok _ _ _ _ _ _ w);
+      available_few = at.available_few;
+      required_few = at.required_few;
+    }
+
+pub left_after-left-requires-in-loop-point : goal.left_after-left-requires-in-loop-point
+left_after-left-requires-in-loop-point c =
+    let ok = c.requires.profile.1 in
+    let at = c.loop-point.invariant _ ok c.requires.profile.2 in
+    let w = walks_at _ _ ok _ _ _ _ _ _ c.loop-point-test.true at in
+    let v = first_part _ _ _ c.requires.fits _ ok _ _ _ _ _ _ w _ (omega (arith, c.max.ensures, c.min-middle.ensures)) _ c.left_after-left.ensures in
+    record {
+      left_few = left_few _ _ ok _ _ _ _ _ v;
       span_short = omega (arith, next_in_week _ _ ok _ _ _ _ _ _ w);
       available_few = at.available_few;
       required_few = at.required_few;
@@ -26,8 +34,8 @@ left_after-left-requires c =
 
 pub changed-available-requires : goal.changed-available-requires
 changed-available-requires c =
-    let ok = c.requires.1 in
-    let at = c.loop-point.invariant _ ok c.requires.2 in
+    let ok = c.requires.profile.1 in
+    let at = c.loop-point.invariant _ ok c.requires.profile.2 in
     let w = walks_at _ _ ok _ _ _ _ _ _ c.loop-point-test.true at in
     let next = next_available _ _ ok _ _ _ _ _ _ w in
     let few = next_available_few _ _ ok _ _ _ _ _ _ w in
@@ -35,8 +43,8 @@ changed-available-requires c =
 
 pub changed-required-requires : goal.changed-required-requires
 changed-required-requires c =
-    let ok = c.requires.1 in
-    let at = c.loop-point.invariant _ ok c.requires.2 in
+    let ok = c.requires.profile.1 in
+    let at = c.loop-point.invariant _ ok c.requires.profile.2 in
     let w = walks_at _ _ ok _ _ _ _ _ _ c.loop-point-test.true at in
     let next = next_required _ _ ok _ _ _ _ _ _ w in
     let few = next_required_few _ _ ok _ _ _ _ _ _ w in
@@ -45,10 +53,12 @@ changed-required-requires c =
 pub loop-point-preserved : goal.loop-point-preserved
 loop-point-preserved c = λ Ω ok p.
     let w = walks_at _ _ ok _ _ _ _ _ _ c.loop-point-test.true (c.loop-point.invariant Ω ok p) in
-    walks_on _ _ ok _ _ _ _ _ _ w c.changed-available.result c.changed-required.result c.left_after-left.result
+    let middle : c.min-middle.result ≡ min (max c.args.until c.loop-point.minute) (point_at c.args.points.now c.loop-point.point-index).minute = omega (arith, c.max.ensures, c.min-middle.ensures) in
+    let v = first_part _ _ _ c.requires.fits Ω ok _ _ _ _ _ _ w _ middle _ c.left_after-left.ensures in
+    let there = second_part _ _ _ c.requires.fits Ω ok _ _ _ _ _ _ w _ middle _ v _ c.left_after-left-in-loop-point.ensures in
+    walks_over _ _ ok _ _ _ _ _ there c.changed-available.result c.changed-required.result
     (omega (arith, ints, c.changed-available.ensures))
     (omega (arith, ints, c.changed-required.ensures))
-    c.left_after-left.ensures
 
 pub returns : goal.returns
-returns c = λ Ω ok p. walks_done c.args.capacity Ω ok _ _ _ _ _ _ c.loop-point-test.false (c.loop-point.invariant Ω ok p)
+returns c = λ Ω ok p. walked _ _ _ c.requires.fits Ω ok _ _ _ _ _ _ c.loop-point-test.false (c.loop-point.invariant Ω ok p)

@@ -1,7 +1,7 @@
 use Rattle.std.proofs.Common.{sym, subst, arith}
 use Rattle.lots.specs.Limits.{max_capacity}
 use Rattle.elastic.specs.Points.{Small}
-use Rattle.elastic.proofs.Profiles.{few_from_profile, few_more, few_small, entered_as, small_at_est, small_at_ect, small_at_lct, profiles_push}
+use Rattle.elastic.proofs.Profiles.{few_from_profile, few_more, few_small, entered_as, small_at_est, small_at_ect, small_at_lct, profiles_between}
 use Rattle.elastic.proofs.profile.Points.add.Goals as goal
 
 pub enter-requires : goal.enter-requires
@@ -35,8 +35,8 @@ enter-requires-3 c =
     }
 
 pub returns : goal.returns
-returns c Ω p =
-    profiles_push _ _ _ _ Ω _ p c.requires.lawful
+returns c Ω Ψ p =
+    profiles_between _ _ _ _ Ω Ψ _ p c.requires.lawful
     (entered_as _ _ _ _ c.at_est.ensures c.enter.ensures)
     (entered_as _ _ _ _ c.at_ect.ensures c.enter-2.ensures)
     (entered_as _ _ _ _ c.at_lct.ensures c.enter-3.ensures)

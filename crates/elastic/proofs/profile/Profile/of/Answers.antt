@@ -1,21 +1,12 @@
-use Rattle.std.proofs.Common.{sym, subst, arith}
-use Rattle.std.proofs.ByRecursion.{All-get_or}
-use Rattle.std.proofs.lemmas.List.{length-take, take_more, take_all}
-use Rattle.lots.proofs.Tables.{lawful_under_most}
-use Rattle.elastic.specs.Points.{Profiles}
+use Rattle.std.proofs.Common.{◌<◌, length, ◌∙◌, arith}
+use Rattle.elastic.proofs.Parts.{those_all, marked_more}
 use Rattle.elastic.proofs.profile.Profile.of.Goals as goal
 
-pub add-requires : goal.add-requires
-add-requires c =
-    let lawful = lawful_under_most _ _ c.args.table.lawful in
-    record {
-      lawful = All-get_or _ _ _ _ c.loop-lot-test.true lawful.each;
-      profile = (_, omega (arith, length-take c.loop-lot.lot-index c.args.table.lots.now, lawful.few_lots), c.loop-lot.invariant);
-    }
+pub loop-number-preserved : goal.loop-number-preserved
+loop-number-preserved c =
+    let so_far = c.loop-number.invariant in
+    let here : c.loop-number.number < length c.loop-number.profile.table.lots.now = rw so_far.0 c.loop-number-test.true in
+    (c.add.ensures.table ∙ so_far.0, marked_more _ _ _ _ here c.add.ensures.added so_far.1)
 
-pub loop-lot-preserved : goal.loop-lot-preserved
-loop-lot-preserved c =
-    subst (Profiles _) (sym (take_more _ _ _ c.loop-lot-test.true)) (c.add.ensures _ c.loop-lot.invariant)
-
-pub invariant_of-result : goal.invariant_of-result
-invariant_of-result c = record { profiles = subst (Profiles _) (take_all _ _ c.loop-lot-test.false) c.loop-lot.invariant }
+pub returns-clause-all : goal.returns-clause-all
+returns-clause-all c = those_all _ _ (λ k h. c.loop-number.invariant.1 k (omega (arith, h)))

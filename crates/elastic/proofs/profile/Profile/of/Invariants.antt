@@ -1,6 +1,5 @@
-use Rattle.std.proofs.Common.{take}
-use Rattle.elastic.specs.Points.{Profiles}
+use Rattle.std.proofs.Common.{◌≡◌, ℕ, ◌<◌, true, false, get_or}
 use Rattle.elastic.proofs.profile.Profile.of.Given as goal
 
-abbrev pub invariant-loop-lot : goal.invariant-loop-lot
-invariant-loop-lot l = Profiles l.points.row (take l.lot-index l.table.lots.now)
+abbrev pub invariant-loop-number : goal.invariant-loop-number
+invariant-loop-number l = (l.profile.table ≡ l.table) × ((k : ℕ) → k < l.number → get_or l.profile.added k false ≡ true)

@@ -1,15 +1,27 @@
-use Rattle.std.proofs.Common.{sym, ap, ◌∙◌, rules, tests}
-use Rattle.std.specs.Prelude.{unwrap_or}
-use Rattle.std.proofs.lemmas.Iterator.{YieldsList-from_slice, YieldsList-from_map}
-use Rattle.std.proofs.lemmas.Iterator.Adapters.{option_map_id}
-use Rattle.std.proofs.lemmas.Iterator.Consumers.{max_from_yields_List}
-use Rattle.rules.specs.NotFirst.{end_bound}
-use Rattle.rules.specs.declared.cuts.Cut.{Cut}
-use Rattle.rules.proofs.Chains.{greatest_is}
+use Rattle.std.proofs.Common.{◌≡◌, max, refl, sym, ap₂, ◌∙◌, rules, arith}
+use Rattle.rules.specs.Cuts.{cut_at}
+use Rattle.rules.proofs.GrowingCuts.{none_marked, inside_later, end_rises, greatest_more}
 use Rattle.rules.proofs.not_first.Candidate.bound.Goals as goal
 
-pub returns : goal.returns
-returns c =
+pub loop-cut-init : goal.loop-cut-init
+loop-cut-init c =
     let self = c.args.self in
-    let most = max_from_yields_List _ _ c.max.ensures.ran (YieldsList-from_map _ (λ (x : Cut). end_bound self.table.capacity self.table.lots.now self.number x.lct) (YieldsList-from_slice c.args.cuts.now cc) c.map.ensures.closure (λ x r q k. search (rules, tests))) in
-    c.unwrap_or.ensures ∙ ap (λ o. unwrap_or o 0) (sym (option_map_id _) ∙ most) ∙ greatest_is self.table.capacity self.table.lots.now self.number c.args.cuts.now
+    record {
+      table = c.new-profile.ensures.table;
+      inside = λ j l h. none_marked self.table.lots.now self.number (cut_at c.args.cuts.now j).lct _ c.new-profile.ensures.none;
+      greatest = refl;
+    }
+
+pub loop-cut-preserved : goal.loop-cut-preserved
+loop-cut-preserved c =
+    let self = c.args.self in
+    let T = self.table.lots.now in
+    let cuts = c.args.cuts.now in
+    let i = c.loop-cut.cut-index in
+    let most : c.max-bound.result ≡ max c.loop-cut.bound c.bound_at.result = search rules in
+    record {
+      table = c.bound_at.ensures.table;
+      inside = λ j l h.
+          inside_later T self.number (cut_at cuts i).lct (cut_at cuts j).lct _ (end_rises cuts c.requires i j (omega (arith, l)) h) c.bound_at.ensures.inside;
+      greatest = most ∙ ap₂ max c.loop-cut.invariant.greatest c.bound_at.ensures.bound ∙ sym (greatest_more self.table.capacity T self.number cuts i c.loop-cut-test.true);
+    }

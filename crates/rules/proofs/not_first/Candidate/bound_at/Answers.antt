@@ -1,22 +1,34 @@
-use Rattle.std.proofs.Common.{min, ◌++◌, sym, ap, ◌∙◌, subst, arith}
-use Rattle.lots.specs.Tables.{ect, lot_at, Lawful}
-use Rattle.rules.specs.NotFirst.{stand_in, least_ect}
-use Rattle.rules.specs.Laws.NotFirstSound.{cut_least, with_stand_in_lawful}
+use Rattle.std.proofs.Common.{◌≡◌, min, sym, ap, ◌∙◌, arith}
+use Rattle.lots.specs.Tables.{ect, lot_at}
+use Rattle.lots.specs.declared.Lot.{Lot}
+use Rattle.rules.specs.NotFirst.{least_ect}
+use Rattle.rules.specs.Laws.NotFirstSound.{cut_least}
+use Rattle.rules.proofs.GrowingCuts.{left_beside, none_left, some_left}
 use Rattle.rules.proofs.not_first.Candidate.bound_at.Goals as goal
 
-pub invariant_of-with_stand_in : goal.invariant_of-with_stand_in
-invariant_of-with_stand_in c =
+pub returns-then-left-eq0-clause-bound : goal.returns-then-left-eq0-clause-bound
+returns-then-left-eq0-clause-bound c =
     let self = c.args.self in
-    let lot = lot_at self.table.lots.now self.number in
-    let added = c.as_slice-3.ensures.value ∙ (rw c.lot.ensures at c.add_stand_in.ensures) ∙ ap (λ Ω. Ω ++ stand_in lot (min (ect lot) c.args.minute) Ω) c.cut-cut.ensures.cut in
-    record { lawful = subst (Lawful self.table.capacity) (sym added) (with_stand_in_lawful _ _ self.table.lawful _ self.stands _) }
+    let T = self.table.lots.now in
+    let end : c.min-end.result ≡ min (ect (lot_at T self.number)) c.args.minute = c.min-end.ensures ∙ ap (λ (x : Lot). min (ect x) c.args.minute) c.lot-lot.ensures in
+    let left = left_beside self.table.capacity T self.number c.args.minute _ c.grow.ensures.cut _ end _ (rw c.grow.ensures.table at c.overflow_beside-left.ensures.left) in
+    sym (none_left self.table.capacity T self.number c.args.minute (sym c.ends_at.ensures ∙ c.if-not-ends_at.false) _ left c.if-left-eq0.true)
 
 pub overflow_cast-result : goal.overflow_cast-result
 overflow_cast-result c =
     let self = c.args.self in
     omega (
       arith,
-      c.least_end-least.ensures,
-      ap least_ect (c.as_slice-2.ensures.value ∙ c.cut-cut.ensures.cut),
-      cut_least _ self.table.lots.now self.table.lawful self.number self.stands c.args.minute,
+      c.least_end.ensures,
+      ap least_ect (c.as_slice.ensures.value ∙ c.cut.ensures),
+      cut_least _ self.table.lots.now self.table.lawful self.number c.args.minute,
     )
+
+pub returns-clause-bound : goal.returns-clause-bound
+returns-clause-bound c =
+    let self = c.args.self in
+    let T = self.table.lots.now in
+    let end : c.min-end.result ≡ min (ect (lot_at T self.number)) c.args.minute = c.min-end.ensures ∙ ap (λ (x : Lot). min (ect x) c.args.minute) c.lot-lot.ensures in
+    let left = left_beside self.table.capacity T self.number c.args.minute _ c.grow.ensures.cut _ end _ (rw c.grow.ensures.table at c.overflow_beside-left.ensures.left) in
+    c.least_end.ensures ∙ ap least_ect (c.as_slice.ensures.value ∙ c.cut.ensures)
+    ∙ sym (some_left self.table.capacity T self.number c.args.minute (sym c.ends_at.ensures ∙ c.if-not-ends_at.false) _ left c.if-left-eq0.false)

@@ -1,11 +1,9 @@
-use Rattle.std.proofs.Common.{length, ap, arith, rules}
+use Rattle.std.proofs.Common.{rules}
 use Rattle.lots.specs.Tables.{lot_at}
 use Rattle.rules.specs.NotFirst.{in_cut}
-use Rattle.rules.specs.Laws.NotFirstSound.{cut_fewer}
 use Rattle.rules.proofs.not_first.Candidate.cut.Goals as goal
 
 pub returns : goal.returns
 returns c =
     let self = c.args.self in
-    let cut = c.chosen.ensures (in_cut self.number (lot_at self.table.lots.now self.number).est c.args.minute) (λ k x b q. search rules) in
-    record { cut = cut; fewer = omega (arith, ap length cut, cut_fewer _ self.table.lots.now self.table.lawful self.number self.stands c.args.minute) }
+    c.chosen.ensures (in_cut self.number (lot_at self.table.lots.now self.number).est c.args.minute) (λ k x b q. search rules)

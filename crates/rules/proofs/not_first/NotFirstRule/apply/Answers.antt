@@ -6,6 +6,5 @@ use Rattle.rules.proofs.not_first.NotFirstRule.apply.Goals as goal
 
 pub returns : goal.returns
 returns c =
-    let told = rw c.as_slice.ensures.row at c.bounds_of-bounds.ensures in
     applied_to_table not_first _ _ _ _ _ (λ j. get_or c.bounds_of-bounds.result j 0) _ c.in_ok-table.ensures
-    (not_first_by_cuts _ _ _ c.bounds_of-bounds.result c.cuts_of-cuts.ensures told) c.raise.ensures
+    (not_first_by_cuts _ _ _ c.bounds_of-bounds.result c.cuts_of-cuts.ensures c.bounds_of-bounds.ensures) c.raise.ensures

@@ -1,0 +1,139 @@
+-- Lots of a table that are marked.
+use Rattle.std.proofs.Common.{◌≡◌, ℕ, zero, suc, ◌+◌, ◌-◌, ◌<◌, ◌≤◌, Bool, true, false, cond, ◌&&◌, ◌||◌, eqb, ltb, List, [], ◌∷◌, ◌++◌, length, replicate, get_or, set, sym, refl, ap, ◌∙◌, ap₂, inl, inr, arith}
+use Rattle.std.specs.List.{AllByRecursion}
+use Rattle.std.proofs.lemmas.Bool.{cases_eq, cases_lt, cond_both, and_from, or_left, or_right, eq-eqb, ne_eqb, lt-ltb, le-ltb, le-leb}
+use Rattle.std.proofs.lemmas.List.{get_or-replicate, length-replicate, get_or_past, get_or-set_same, get_or-set_other, append-nil}
+use Rattle.lots.specs.Limits.{max_capacity}
+use Rattle.lots.specs.Tables.{lot_at, LawfulLot, Lawful}
+use Rattle.lots.specs.declared.Lot.{Lot}
+use Rattle.lots.proofs.Tables.{lawful_under_most}
+use Rattle.elastic.specs.Parts.{those, kept}
+use Rattle.elastic.specs.Profile.{earliest}
+
+pub those_none : (n : ℕ) (T : List Lot) → those (replicate n false) T ≡ []
+those_none zero T = refl
+those_none (suc n) [] = refl
+those_none (suc n) (x ∷ xs) = those_none n xs
+
+pub none_marked : (n k : ℕ) → get_or (replicate n false) k false ≡ false
+none_marked n k = elim (cases_lt k n) [
+  | inl h ↦ get_or-replicate n k false false h
+  | inr h ↦ get_or_past (replicate n false) k false (omega (arith, length-replicate n false, h))
+]
+
+pub those_all : (bs : List Bool) (T : List Lot) → ((k : ℕ) → k < length T → get_or bs k false ≡ true) → those bs T ≡ T
+those_all [] [] h = refl
+those_all [] (x ∷ xs) h = absurd (let z : false ≡ true = h 0 (omega arith) in cc)
+those_all (b ∷ bs) [] h = refl
+those_all (b ∷ bs) (x ∷ xs) h =
+    ap₂ (λ c ys. cond c (x ∷ ys) ys) (h 0 (omega arith)) (those_all bs xs (λ k l. h (suc k) (omega arith)))
+
+and_swap : (b : Bool) → (false && b) ≡ (b && false)
+and_swap true = refl
+and_swap false = refl
+
+no_more : (b c : Bool) → b ≡ (b || (false && c))
+no_more true c = refl
+no_more false c = refl
+
+module _ (bs : List Bool) (n l : ℕ) where
+  -- the mark of n, which was not set
+  pub marks_more : n < l → n < length bs → (k : ℕ) → get_or (set bs n true) k false ≡ (get_or bs k false || (eqb k n && ltb n l))
+  marks_more h room k = elim (cases_eq k n) [
+    | inl e ↦
+        ap (λ m. get_or (set bs n true) m false) e ∙ get_or-set_same bs n true false room
+        ∙ sym (or_right (get_or bs k false) (eqb k n && ltb n l) (and_from (eqb k n) (ltb n l) (eq-eqb k n e) (lt-ltb n l h)))
+    | inr ne ↦
+        get_or-set_other bs n k true false ne ∙ no_more (get_or bs k false) (ltb n l)
+        ∙ ap (λ b. get_or bs k false || (b && ltb n l)) (sym (ne_eqb k n ne))
+  ]
+
+  -- and where it is set, or there is no such lot
+  pub marks_kept : (n < l → get_or bs n false ≡ true) → (k : ℕ) → get_or bs k false ≡ (get_or bs k false || (eqb k n && ltb n l))
+  marks_kept known k = elim (cases_eq k n) [
+    | inl e ↦ elim (cases_lt n l) [
+      | inl h ↦
+          let there = ap (λ m. get_or bs m false) e ∙ known h in
+          there ∙ sym (or_left (get_or bs k false) (eqb k n && ltb n l) there)
+      | inr h ↦
+          no_more (get_or bs k false) (eqb k n) ∙ ap (λ b. get_or bs k false || b) (and_swap (eqb k n) ∙ ap (λ b. eqb k n && b) (sym (le-ltb n l h)))
+    ]
+    | inr ne ↦ no_more (get_or bs k false) (ltb n l) ∙ ap (λ b. get_or bs k false || (b && ltb n l)) (sym (ne_eqb k n ne))
+  ]
+
+-- marks from the front
+pub marked_more : (bs bs' : List Bool) (n l : ℕ) → n < l → ((k : ℕ) → get_or bs' k false ≡ (get_or bs k false || (eqb k n && ltb n l))) → ((k : ℕ) → k < n → get_or bs k false ≡ true) → (k : ℕ) → k < n + 1 → get_or bs' k false ≡ true
+marked_more bs bs' n l h is before k low = is k ∙ elim (cases_eq k n) [
+  | inl e ↦ or_right (get_or bs k false) (eqb k n && ltb n l) (and_from (eqb k n) (ltb n l) (eq-eqb k n e) (lt-ltb n l h))
+  | inr ne ↦ or_left (get_or bs k false) (eqb k n && ltb n l) (before k (omega arith))
+]
+
+pub cond_append : (b : Bool) (x : Lot) (xs ys : List Lot) → cond b (x ∷ (xs ++ ys)) (xs ++ ys) ≡ cond b (x ∷ xs) xs ++ ys
+cond_append true x xs ys = refl
+cond_append false x xs ys = refl
+
+-- one mark more puts its lot among the others
+pub record Among (bs : List Bool) (T : List Lot) (n : ℕ) : Type 0 where
+  pub before : List Lot
+  pub after : List Lot
+  pub without : those bs T ≡ before ++ after
+  pub with_it : those (set bs n true) T ≡ before ++ (lot_at T n ∷ after)
+
+pub those_more : (bs : List Bool) (T : List Lot) (n : ℕ) → n < length T → n < length bs → get_or bs n false ≡ false → Among bs T n
+those_more [] T n h k e = absurd (omega arith)
+those_more (b ∷ bs) [] n h k e = absurd (omega arith)
+those_more (b ∷ bs) (x ∷ xs) zero h k e = record {
+  before = [];
+  after = those bs xs;
+  without = ap (λ c. cond c (x ∷ those bs xs) (those bs xs)) e;
+  with_it = refl;
+}
+those_more (b ∷ bs) (x ∷ xs) (suc n) h k e =
+    let r = those_more bs xs n (omega arith) (omega arith) e in
+    record {
+      before = cond b (x ∷ r.before) r.before;
+      after = r.after;
+      without = ap (λ ys. cond b (x ∷ ys) ys) r.without ∙ cond_append b x r.before r.after;
+      with_it = ap (λ ys. cond b (x ∷ ys) ys) r.with_it ∙ cond_append b x r.before (lot_at xs n ∷ r.after);
+    }
+
+-- some of a lawful table are one, under the greatest capacity
+those_few : (bs : List Bool) (T : List Lot) → length (those bs T) ≤ length T
+those_few [] T = omega arith
+those_few (b ∷ bs) [] = omega arith
+those_few (b ∷ bs) (x ∷ xs) =
+    cond_both b (x ∷ those bs xs) (those bs xs) (λ ys. length ys ≤ suc (length xs)) (λ e. omega (arith, those_few bs xs)) (λ e. omega (arith, those_few bs xs))
+
+-- a lot that is not marked makes them fewer
+pub some_missing : (bs : List Bool) (T : List Lot) (n : ℕ) → n < length T → get_or bs n false ≡ false → length (those bs T) < length T
+some_missing [] T n h e = omega (arith, h)
+some_missing (b ∷ bs) [] n h e = absurd (omega arith)
+some_missing (b ∷ bs) (x ∷ xs) zero h e = omega (arith, ap (λ c. length (cond c (x ∷ those bs xs) (those bs xs))) e, those_few bs xs)
+some_missing (b ∷ bs) (x ∷ xs) (suc n) h e =
+    let rest = some_missing bs xs n (omega arith) e in
+    cond_both b (x ∷ those bs xs) (those bs xs) (λ ys. length ys < suc (length xs)) (λ e. omega (arith, rest)) (λ e. omega (arith, rest))
+
+those_each : (P : Lot → Type 0) (bs : List Bool) (T : List Lot) → AllByRecursion P T → AllByRecursion P (those bs T)
+those_each P [] T h = tt
+those_each P (b ∷ bs) [] h = tt
+those_each P (b ∷ bs) (x ∷ xs) h =
+    cond_both b (x ∷ those bs xs) (those bs xs) (AllByRecursion P) (λ e. (h.0, those_each P bs xs h.1)) (λ e. those_each P bs xs h.1)
+
+pub those_lawful : (bs : List Bool) (C : ℕ) (T : List Lot) → Lawful C T → Lawful max_capacity (those bs T)
+those_lawful bs C T given =
+    let ok = lawful_under_most C T given in
+    record {
+      some_trays = ok.some_trays;
+      few_trays = ok.few_trays;
+      few_lots = omega (arith, those_few bs T, ok.few_lots);
+      each = those_each (LawfulLot max_capacity) bs T ok.each;
+    }
+
+pub nothing_kept : (Ω : List Lot) → Ω ++ kept 0 0 Ω ≡ Ω
+nothing_kept Ω =
+    ap (λ b. Ω ++ cond b [] (record { est = earliest Ω; lct = 0; p = 0 - earliest Ω; c = 0 } ∷ [])) (le-leb 0 (earliest Ω) (omega arith)) ∙ append-nil Ω
+
+pub trays_fit : (C : ℕ) (T : List Lot) (n : ℕ) → AllByRecursion (LawfulLot C) T → (lot_at T n).c ≤ C
+trays_fit C [] n h = omega arith
+trays_fit C (x ∷ xs) zero h = h.0.has_trays
+trays_fit C (x ∷ xs) (suc n) h = trays_fit C xs n h.1

@@ -1,0 +1,14 @@
+-- Some of the lots of a table, and a run beside them.
+use Rattle.std.specs.Prelude.{ℕ, ◌-◌, Bool, cond, List, [], ◌∷◌, nat_le}
+use Rattle.lots.specs.declared.Lot.{Lot}
+use Rattle.elastic.specs.Profile.{earliest}
+
+-- the lots of T that are marked; past the last mark none is
+abbrev pub those : List Bool → List Lot → List Lot
+those [] T = []
+those (b ∷ bs) [] = []
+those (b ∷ bs) (x ∷ xs) = cond b (x ∷ those bs xs) (those bs xs)
+
+-- a run that keeps c trays from the earliest est of Ω until m, as a lot; none where m is no later
+abbrev pub kept : ℕ → ℕ → List Lot → List Lot
+kept c m Ω = cond (nat_le m (earliest Ω)) [] (record { est = earliest Ω; lct = m; p = m - earliest Ω; c = c } ∷ [])
