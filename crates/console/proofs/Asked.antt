@@ -1,7 +1,7 @@
 -- What the words of a line ask.
 use Rattle.std.proofs.Common.{◌≡◌, ℕ, cond, eqb, List, ◌∷◌, length, get_or, Ok, Err, Result, sym, refl, ap, ◌∙◌, subst}
 use Rattle.plan.specs.Tables.{Table}
-use Rattle.console.specs.Lines.{Name, overflow_call, rule_call, open_call, admit_call, narrow_call, tighten_call, windows_call, word_of, Asks, Known, Answers, Made, Comes}
+use Rattle.console.specs.Lines.{Name, overflow_call, rule_call, open_call, admit_call, narrow_call, tighten_call, solve_call, windows_call, word_of, Asks, Known, Answers, Made, Comes}
 use Rattle.console.specs.declared.answers.Answer.{Answer}
 use Rattle.console.specs.declared.answers.Fault.{Fault}
 use Rattle.console.specs.declared.answers.Fault.TheVariants as fault
@@ -9,7 +9,7 @@ use Rattle.console.specs.declared.answers.Fault.TheVariants as fault
 -- the name that a word is, by its first byte; of the two that begin with an `o`, overflow is the longer
 abbrev name_by : ℕ → ℕ → Name
 name_by b count =
-    cond (eqb b 114) rule_call (cond (eqb b 97) admit_call (cond (eqb b 110) narrow_call (cond (eqb b 116) tighten_call (cond (eqb b 119) windows_call (cond (eqb count 8) overflow_call open_call)))))
+    cond (eqb b 114) rule_call (cond (eqb b 97) admit_call (cond (eqb b 110) narrow_call (cond (eqb b 116) tighten_call (cond (eqb b 115) solve_call (cond (eqb b 119) windows_call (cond (eqb count 8) overflow_call open_call))))))
 
 name_by_word : (n : Name) → name_by (get_or (word_of n) 0 0) (length (word_of n)) ≡ n
 name_by_word overflow_call = refl
@@ -18,6 +18,7 @@ name_by_word open_call = refl
 name_by_word admit_call = refl
 name_by_word narrow_call = refl
 name_by_word tighten_call = refl
+name_by_word solve_call = refl
 name_by_word windows_call = refl
 
 one_name : (n m : Name) → word_of n ≡ word_of m → n ≡ m

@@ -1,4 +1,6 @@
 mod Asked
 mod Numerals
+mod PileWords
 mod Pieces
 mod Texts
+mod Loans

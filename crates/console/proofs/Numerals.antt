@@ -4,11 +4,11 @@ use Rattle.std.specs.Result.{result_ok}
 use Rattle.std.specs.Str.Parse.{ParsesUnsigned}
 use Rattle.std.specs.Str.{all_ascii_digits}
 use Rattle.std.proofs.lemmas.Str.Parse.{IsNumeralModel, numerals_by_fold, tells_all_ascii_digits, parse_plain}
-use Rattle.console.specs.Syntax.{Reads, Number, number_after}
+use Rattle.console.specs.Syntax.{Reads, NumberOf, number_after}
 
 pub decimals : IsNumeralModel (λ ds. all_ascii_digits ds ≡ true) (number_after 0)
 decimals = numerals_by_fold _ tells_all_ascii_digits number_after (search rules)
 
-pub number_from_parse : {E : Type 0} (w : List ℕ) (r : Result ℕ E) → get_or w 0 0 ≢ 43 → ParsesUnsigned 16 10 w r → Reads (Number w) (result_ok r)
-number_from_parse {E} w (Ok n) unsigned h = let is = parse_plain decimals {E = E} 16 w (Ok n) h unsigned in search (rules, is)
-number_from_parse {E} w (Err e) unsigned h = let not = parse_plain decimals {E = E} 16 w (Err e) h unsigned in search (rules, not)
+pub number_from_parse : {E : Type 0} (bits : ℕ) (w : List ℕ) (r : Result ℕ E) → get_or w 0 0 ≢ 43 → ParsesUnsigned bits 10 w r → Reads (NumberOf bits w) (result_ok r)
+number_from_parse {E} bits w (Ok n) unsigned h = let is = parse_plain decimals {E = E} bits w (Ok n) h unsigned in search (rules, is)
+number_from_parse {E} bits w (Err e) unsigned h = let not = parse_plain decimals {E = E} bits w (Err e) h unsigned in search (rules, not)

@@ -1,5 +1,5 @@
 -- What lines ask, and what is answered to them.
-use Rattle.std.specs.Prelude.{◌≡◌, ℕ, ◌⊎◌, List, [], ◌∷◌, length, drop, Some, None, Ok, Err, vec_items, codes, Option, Result, slice_index, slice_index_or}
+use Rattle.std.specs.Prelude.{◌≡◌, ℕ, ◌⊎◌, List, [], ◌∷◌, length, take, drop, replicate, Some, None, Ok, Err, vec_items, codes, Option, Result, slice_index, slice_index_or}
 use Rattle.std.specs.Global.{Vec}
 use Rattle.std.specs.List.{AllZip}
 use Rattle.lots.specs.declared.Lot.{Lot}
@@ -7,15 +7,18 @@ use Rattle.lots.specs.declared.Refusal.{Refusal}
 use Rattle.elastic.specs.Overflow as elastic
 use Rattle.rule.specs.Meanings.{Applied}
 use Rattle.rule.specs.declared.Verdict.{Verdict}
+use Rattle.lots.specs.Tables.{blank}
+use Rattle.tree.specs.Answer.{Solved}
+use Rattle.tree.specs.declared.Search.{Search}
 use Rattle.plan.specs.Calls.{Opened, Admitted, Narrowed, Tightened}
 use Rattle.plan.specs.Tables.{Table}
-use Rattle.console.specs.Piles.{pile_word, pile_meaning}
+use Rattle.console.specs.Piles.{pile_meaning, Names}
 use Rattle.console.specs.declared.piles.Pile.{Pile}
 use Rattle.console.specs.declared.answers.Answer.{Answer}
 use Rattle.console.specs.declared.answers.Answer.TheVariants as answer
 use Rattle.console.specs.declared.answers.Fault.{Fault}
 use Rattle.console.specs.declared.answers.Fault.TheVariants as fault
-use Rattle.console.specs.Syntax.{Number, Cell, lot_numbers, pieces, space}
+use Rattle.console.specs.Syntax.{Number, Budget, Cell, lot_numbers, pieces, space}
 
 -- the calls, by name
 pub data Name : Type 0 where
@@ -25,6 +28,7 @@ pub data Name : Type 0 where
   admit_call : Name
   narrow_call : Name
   tighten_call : Name
+  solve_call : Name
   windows_call : Name
 
 -- the first word of a line that makes the call
@@ -35,6 +39,7 @@ word_of open_call = codes "open"
 word_of admit_call = codes "admit"
 word_of narrow_call = codes "narrow"
 word_of tighten_call = codes "tighten"
+word_of solve_call = codes "solve"
 word_of windows_call = codes "windows"
 
 -- why nothing was read: P holds where it is for the words, and nothing is said where it is for want of memory
@@ -49,11 +54,16 @@ TableForm words C T = Number (slice_index_or words 0 []) C × AllZip Cell (drop 
 
 -- `PILE C CELL..`
 abbrev pub RuleForm : List (List ℕ) → Pile → ℕ → List Lot → Type 0
-RuleForm words p C T = (slice_index_or words 0 [] ≡ pile_word p) × TableForm (drop 1 words) C T
+RuleForm words p C T = Names (slice_index_or words 0 []) p × TableForm (drop 1 words) C T
 
 -- the words are just these numbers
 abbrev pub NumbersForm : List (List ℕ) → List ℕ → Type 0
 NumbersForm words ns = AllZip Number words ns
+
+-- `PILE BUDGET TRAIL STARTS`
+abbrev pub SolveForm : List (List ℕ) → Pile → ℕ → ℕ → ℕ → Type 0
+SolveForm words p budget cells places =
+    Names (slice_index_or words 0 []) p × Budget (slice_index_or words 1 []) budget × NumbersForm (drop 2 words) (cells ∷ places ∷ [])
 
 -- the words after the name write some arguments of the call
 abbrev pub Asks : Name → List (List ℕ) → Type 0
@@ -62,7 +72,8 @@ Asks rule_call words = (p : Pile) × (C : ℕ) × (T : List Lot) × RuleForm wor
 Asks open_call words = (C : ℕ) × NumbersForm words (C ∷ [])
 Asks admit_call words = (x : Lot) × NumbersForm words (lot_numbers x)
 Asks narrow_call words = (i from to : ℕ) × NumbersForm words (i ∷ from ∷ to ∷ [])
-Asks tighten_call words = (p : Pile) × (words ≡ pile_word p ∷ [])
+Asks tighten_call words = (p : Pile) × AllZip Names words (p ∷ [])
+Asks solve_call words = (p : Pile) × (budget cells places : ℕ) × SolveForm words p budget cells places
 Asks windows_call words = words ≡ []
 
 -- the words write a call that the program knows
@@ -73,6 +84,11 @@ Known words = (n : Name) × (slice_index_or words 0 [] ≡ word_of n) × Asks n 
 abbrev pub told : {X : Type 0} → (X → Answer) → Result X Refusal → Answer
 told f (Ok x) = f x
 told f (Err refusal) = answer.Refused refusal
+
+-- the answer that tells the result of a search of n lots, where us is what the place for starts holds
+abbrev pub ToldSearch : ℕ → List ℕ → Result Search Refusal → Answer → Type 0
+ToldSearch n us (Ok search) a = (starts : Vec ℕ) × (vec_items starts ≡ take n us) × (a ≡ answer.Solved search starts)
+ToldSearch n us (Err refusal) a = a ≡ answer.Refused refusal
 
 -- what is answered to a call, where the words after its name write the arguments, and the plan holds P before and Q after
 abbrev pub Answers : Name → List (List ℕ) → Table → Table → Answer → Type 0
@@ -87,7 +103,11 @@ Answers admit_call words P Q a = (x : Lot) × NumbersForm words (lot_numbers x) 
 Answers narrow_call words P Q a =
     (i from to : ℕ) × NumbersForm words (i ∷ from ∷ to ∷ []) × (r : Result (Unit {0}) Refusal) × Narrowed i from to P Q r × (a ≡ told (λ _. answer.Done) r)
 Answers tighten_call words P Q a =
-    (p : Pile) × (words ≡ pile_word p ∷ []) × (v : Verdict) × (k : ℕ) × Tightened (pile_meaning p) P Q v k × (a ≡ answer.Tightened v k)
+    (p : Pile) × AllZip Names words (p ∷ []) × (v : Verdict) × (k : ℕ) × Tightened (pile_meaning p) P Q v k × (a ≡ answer.Tightened v k)
+Answers solve_call words P Q a =
+    (p : Pile) × (budget cells places : ℕ) × SolveForm words p budget cells places
+    × (ds : List Lot) × (us : List ℕ) × (r : Result Search Refusal)
+    × Solved (pile_meaning p) P.capacity P.lots budget (replicate cells blank) ds (replicate places 0) us r × (Q ≡ P) × ToldSearch (length P.lots) us r a
 Answers windows_call words P Q a = (words ≡ []) × (lots : Vec Lot) × (vec_items lots ≡ P.lots) × (Q ≡ P) × (a ≡ answer.Windows P.capacity lots)
 
 -- what is answered to the words of a line that write a call

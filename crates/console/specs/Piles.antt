@@ -1,5 +1,6 @@
 -- The piles that a word can name.
-use Rattle.std.specs.Prelude.{ℕ, List, ◌++◌, codes}
+use Rattle.std.specs.Prelude.{◌≡◌, ◌≢◌, ℕ, ◌+◌, ◌≤◌, max, List, ◌++◌, codes}
+use Rattle.rule.specs.Both.{both}
 use Rattle.rule.specs.Idle.{idle}
 use Rattle.rule.specs.Meanings.{Meaning}
 use Rattle.rule.specs.Turned.{turned}
@@ -7,29 +8,49 @@ use Rattle.rules.specs.House.{house}
 use Rattle.rules.specs.NotFirst.{not_first}
 use Rattle.rules.specs.Overload.{overload}
 use Rattle.rules.specs.TimeTable.{time_table}
-use Rattle.console.specs.declared.piles.Base.{Base}
-use Rattle.console.specs.declared.piles.Base.TheVariants as base
-use Rattle.console.specs.declared.piles.Pile.{Pile}
-use Rattle.console.specs.declared.piles.Pile.TheVariants as pile
+use Rattle.console.specs.declared.piles.Pile.{Pile, Idle, Overload, TimeTable, NotFirst, House, Turned', Both'}
 
-abbrev pub base_word : Base → List ℕ
-base_word base.Idle = codes "idle"
-base_word base.Overload = codes "overload"
-base_word base.TimeTable = codes "timetable"
-base_word base.NotFirst = codes "notfirst"
-
-abbrev pub base_meaning : Base → Meaning
-base_meaning base.Idle = idle
-base_meaning base.Overload = overload
-base_meaning base.TimeTable = time_table
-base_meaning base.NotFirst = not_first
+-- Below, a and b say where a pile within another lies.
 
 abbrev pub pile_word : Pile → List ℕ
-pile_word (pile.Plain b) = base_word b
-pile_word (pile.Turned b) = codes "turned(" ++ (base_word b ++ codes ")")
-pile_word pile.House = codes "house"
+pile_word Idle = codes "idle"
+pile_word Overload = codes "overload"
+pile_word TimeTable = codes "timetable"
+pile_word NotFirst = codes "notfirst"
+pile_word House = codes "house"
+pile_word (Turned' a p) = codes "turned(" ++ (pile_word p ++ codes ")")
+pile_word (Both' a p b q) = codes "both(" ++ (pile_word p ++ (codes "," ++ (pile_word q ++ codes ")")))
 
 abbrev pub pile_meaning : Pile → Meaning
-pile_meaning (pile.Plain b) = base_meaning b
-pile_meaning (pile.Turned b) = turned (base_meaning b)
-pile_meaning pile.House = house
+pile_meaning Idle = idle
+pile_meaning Overload = overload
+pile_meaning TimeTable = time_table
+pile_meaning NotFirst = not_first
+pile_meaning House = house
+pile_meaning (Turned' a p) = turned (pile_meaning p)
+pile_meaning (Both' a p b q) = both (pile_meaning p) (pile_meaning q)
+
+-- a name alone is one level; turned and both are one more than what is in them
+abbrev pub levels : Pile → ℕ
+levels Idle = 1
+levels Overload = 1
+levels TimeTable = 1
+levels NotFirst = 1
+levels House = 1
+levels (Turned' a p) = levels p + 1
+levels (Both' a p b q) = max (levels p) (levels q) + 1
+
+abbrev pub max_levels : ℕ
+max_levels = 500
+
+-- the word names the pile: it is the pile's word, and not too deep to be read
+abbrev pub Names : List ℕ → Pile → Type 0
+Names w p = (w ≡ pile_word p) × (levels p ≤ max_levels)
+
+-- the text does not begin with the word
+abbrev pub Lacks : List ℕ → List ℕ → Type 0
+Lacks text w = (x : List ℕ) → text ≢ w ++ x
+
+-- the text begins with the word of a pile of at most so many levels, and goes on with the rest
+abbrev pub Begins : List ℕ → ℕ → Pile → List ℕ → Type 0
+Begins text most p rest = (text ≡ pile_word p ++ rest) × (levels p ≤ most)

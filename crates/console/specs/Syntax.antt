@@ -1,12 +1,10 @@
 -- How a line writes words, numbers and cells.
-use Rattle.std.specs.Prelude.{◌≡◌, ℕ, ◌+◌, ◌-◌, ◌*◌, ◌^◌, ◌<◌, true, cond, List, [], ◌∷◌, length, Option, Result, MatchOption, MatchResult, ◌==◌}
+use Rattle.std.specs.Prelude.{◌≡◌, ℕ, ◌+◌, ◌-◌, ◌*◌, ◌^◌, ◌<◌, true, cond, List, [], ◌∷◌, length, Option, MatchOption, ◌==◌}
 use Rattle.std.specs.List.{AllZip, slice_split}
 use Rattle.std.specs.declared.str.Split.{Split}
 use Rattle.std.specs.Str.Iter.{split_text, split_has_more, split_pattern}
 use Rattle.std.specs.Str.{all_ascii_digits}
 use Rattle.lots.specs.declared.Lot.{Lot}
-use Rattle.console.specs.declared.answers.Fault.{Fault}
-use Rattle.console.specs.declared.answers.Fault.TheVariants.{Unknown}
 
 -- the bytes of a space, a comma and the digit 0
 abbrev pub space : ℕ
@@ -22,10 +20,6 @@ digit_zero = 48
 abbrev pub Reads : {X : Type 0} → (X → Type 0) → Option X → Type 0
 Reads {X} R r = MatchOption r ((x : X) → R x → ⊥) R
 
--- the result holds what R holds of, and says that it is unknown where R holds of nothing
-abbrev pub ReadsOrUnknown : {X : Type 0} → (X → Type 0) → Result X Fault → Type 0
-ReadsOrUnknown {X} R r = MatchResult r R (λ f. (f ≡ Unknown) × ((x : X) → R x → ⊥))
-
 -- what stands between the bytes c: one piece more than there are of c, and a piece may be empty
 abbrev pub pieces : ℕ → List ℕ → List (List ℕ)
 pieces c bs = slice_split (λ b. b == c) bs
@@ -39,12 +33,19 @@ abbrev pub number_after : ℕ → List ℕ → ℕ
 number_after n [] = n
 number_after n (d ∷ ds) = number_after (10 * n + (d - digit_zero)) ds
 
--- the word writes the number n: it has decimal digits alone, at least one, and n fits 16 bits
-pub record Number (w : List ℕ) (n : ℕ) : Type 0 where
+-- the word writes the number n: it has decimal digits alone, at least one, and n fits so many bits
+pub record NumberOf (bits : ℕ) (w : List ℕ) (n : ℕ) : Type 0 where
   pub some_digit : 0 < length w
   pub digits_only : all_ascii_digits w ≡ true
-  pub fits : n < 2 ^ 16
+  pub fits : n < 2 ^ bits
   pub value : n ≡ number_after 0 w
+
+abbrev pub Number : List ℕ → ℕ → Type 0
+Number = NumberOf 16
+
+-- a budget has 32 bits
+abbrev pub Budget : List ℕ → ℕ → Type 0
+Budget = NumberOf 32
 
 -- the four numbers of a lot
 abbrev pub lot_numbers : Lot → List ℕ

@@ -1,13 +1,14 @@
 // What a line is answered, and why a call comes to no answer of its own.
 ghost use Rattle.std.specs.Prelude.{◌≡◌, Some};
 ghost use Rattle.std.specs.Fmt.{WritesOnOk};
-ghost use Rattle.console.specs.Shown.{shown_answer, shown_cells};
+ghost use Rattle.console.specs.Shown.{shown_answer, shown_cells, shown_numbers, shown_search};
 ghost use Rattle.console.specs.declared.answers.Fault.TheVariants.{Refused as refused_by, Memory as out_of_memory};
 
 use lots::{Lot, Refusal};
 use rule::Verdict;
 use std::alloc::{AllocError, AllocFailed};
 use std::fmt;
+use tree::Search;
 
 // The answer to a line. It is shown as the line that the program writes.
 #[derive(Drop)]
@@ -18,6 +19,7 @@ pub enum Answer {
     Admitted { number: usize },
     Tightened { verdict: Verdict, applications: u32 },
     Windows { capacity: u16, lots: Vec<Lot> },
+    Solved { search: Search, starts: Vec<u16> },
     Refused(Refusal),
     Unknown,
 }
@@ -31,6 +33,34 @@ fn write_cells<W: fmt::Write>(lots: &[Lot], f: &mut fmt::Formatter<W>) -> fmt::R
         write!(f, " {est},{lct},{p},{c}")?;
     }
     Ok(())
+}
+
+// Writes each number after a space.
+fn write_numbers<W: fmt::Write>(numbers: &[u16], f: &mut fmt::Formatter<W>) -> fmt::Result
+    ensures { WritesOnOk W.Write.write_str_gives f.old result (shown_numbers numbers.now) f.new }
+{
+    for number in numbers {
+        write!(f, " {number}")?;
+    }
+    Ok(())
+}
+
+// Writes what a search found, and the starts of the best schedule.
+fn write_search<W: fmt::Write>(
+    search: Search,
+    starts: &[u16],
+    f: &mut fmt::Formatter<W>,
+) -> fmt::Result
+    ensures { WritesOnOk W.Write.write_str_gives f.old result (shown_search search starts.now) f.new }
+{
+    match search {
+        Search::Best { end, nodes } => {
+            write!(f, "best {end} {nodes}")?;
+            write_numbers(starts, f)
+        }
+        Search::None { nodes } => write!(f, "none {nodes}"),
+        Search::Spent { nodes } => write!(f, "spent {nodes}"),
+    }
 }
 
 impl fmt::Display for Answer {
@@ -53,6 +83,7 @@ impl fmt::Display for Answer {
                 write!(f, "{capacity}")?;
                 write_cells(lots.as_slice(), f)
             }
+            Answer::Solved { search, starts } => write_search(*search, starts.as_slice(), f),
             Answer::Refused(refusal) => write!(f, "refused {}", u8::from(*refusal)),
             Answer::Unknown => f.write_str("unknown"),
         }

@@ -1,13 +1,14 @@
 // Answers a line: reads the call that it writes, makes the call, and says what came of it.
-ghost use Rattle.std.specs.Prelude.{IfOk};
+ghost use Rattle.std.specs.Prelude.{IfOk, MatchResult};
 ghost use Rattle.plan.specs.Tables.{Table};
-ghost use Rattle.console.specs.Lines.{overflow_call, rule_call, open_call, admit_call, narrow_call, tighten_call, windows_call, Known, Asks, Answers, Made, Comes, Answered};
+ghost use Rattle.console.specs.Lines.{overflow_call, rule_call, open_call, admit_call, narrow_call, tighten_call, solve_call, windows_call, Unread, SolveForm, Known, Asks, Answers, Made, Comes, Answered};
 ghost use Rattle.console.specs.Syntax.{pieces, space};
 
 use crate::answers::{Answer, Fault};
 use crate::parts::Parts;
 use crate::piles::Pile;
-use crate::words::{lot, numbers, table};
+use crate::words::{budget, lot, numbers, table};
+use lots::Lot;
 use plan::Plan;
 use rule::Rule;
 use std::alloc::{AllocError, Global};
@@ -40,7 +41,8 @@ fn call(heap: Global, plan: &mut Plan, line: &[u8]) -> Result<Answer, Fault>
         Some("open") => open(plan, words),
         Some("admit") => admit(plan, words),
         Some("narrow") => narrow(plan, words),
-        Some("tighten") => tighten(plan, words),
+        Some("tighten") => tighten(heap, plan, words),
+        Some("solve") => solve(heap, plan, words),
         Some("windows") => windows(heap, plan, words),
         _ => Err(Fault::Unknown),
     }
@@ -59,7 +61,7 @@ fn overflow(heap: Global, words: Parts<'_>) -> Result<Answer, Fault>
 fn rule(heap: Global, mut words: Parts<'_>) -> Result<Answer, Fault>
     ensures { (P : Table) → Comes (Answers rule_call words.entry) (Asks rule_call words.entry → ⊥) P P result }
 {
-    let pile: Pile = words.next().ok_or(Fault::Unknown)?.parse()?;
+    let pile = Pile::read(heap, words.next().ok_or(Fault::Unknown)?)?;
     let (capacity, mut lots) = table(heap, words)?;
     let verdict = pile.apply(capacity, lots.as_mut_slice())?;
     Ok(Answer::Applied { verdict, lots })
@@ -93,10 +95,10 @@ fn narrow(plan: &mut Plan, words: Parts<'_>) -> Result<Answer, Fault>
 }
 
 // `tighten PILE`
-fn tighten(plan: &mut Plan, mut words: Parts<'_>) -> Result<Answer, Fault>
+fn tighten(heap: Global, plan: &mut Plan, mut words: Parts<'_>) -> Result<Answer, Fault>
     ensures { Comes (Answers tighten_call words.entry) (Asks tighten_call words.entry → ⊥) plan.old plan.new result }
 {
-    let pile: Pile = words.next().ok_or(Fault::Unknown)?.parse()?;
+    let pile = Pile::read(heap, words.next().ok_or(Fault::Unknown)?)?;
     if words.next().is_some() {
         return Err(Fault::Unknown);
     }
@@ -105,6 +107,47 @@ fn tighten(plan: &mut Plan, mut words: Parts<'_>) -> Result<Answer, Fault>
         verdict,
         applications,
     })
+}
+
+// What a search is asked to do, with how many cells for its trail and how many places for starts.
+#[derive(Drop)]
+struct Asked {
+    pile: Pile,
+    budget: u32,
+    cells: u16,
+    places: u16,
+}
+
+// The words `PILE BUDGET TRAIL STARTS`.
+fn search_words(heap: Global, mut words: Parts<'_>) -> Result<Asked, Fault>
+    ensures { MatchResult result (λ s. SolveForm words.entry s.pile s.budget s.cells s.places) (λ f. Unread f (Asks solve_call words.entry → ⊥)) }
+{
+    let pile = Pile::read(heap, words.next().ok_or(Fault::Unknown)?)?;
+    let budget = words.next().and_then(budget).ok_or(Fault::Unknown)?;
+    let [cells, places] = numbers::<2>(words).ok_or(Fault::Unknown)?;
+    Ok(Asked {
+        pile,
+        budget,
+        cells,
+        places,
+    })
+}
+
+// `solve PILE BUDGET TRAIL STARTS`
+fn solve(heap: Global, plan: &Plan, words: Parts<'_>) -> Result<Answer, Fault>
+    ensures { Comes (Answers solve_call words.entry) (Asks solve_call words.entry → ⊥) plan.now plan.now result }
+{
+    let Asked {
+        pile,
+        budget,
+        cells,
+        places,
+    } = search_words(heap, words)?;
+    let mut trail = vec![in heap; Lot::default(); usize::from(cells)]?;
+    let mut starts = vec![in heap; 0; usize::from(places)]?;
+    let search = plan.solve(&pile, budget, trail.as_mut_slice(), starts.as_mut_slice())?;
+    starts.truncate(plan.lots().len());
+    Ok(Answer::Solved { search, starts })
 }
 
 // `windows`

@@ -1,80 +1,88 @@
 // The piles that a word can name.
-ghost use Rattle.std.specs.Prelude.{◌≡◌};
-ghost use Rattle.console.specs.Piles.{base_word, base_meaning, pile_word, pile_meaning};
-ghost use Rattle.console.specs.Syntax.{ReadsOrUnknown};
-ghost use Rattle.console.specs.Laws.PileSound.{base_sound, pile_sound};
+ghost use Rattle.std.specs.Prelude.{◌≡◌, ℕ, List, ◌++◌, MatchOption, MatchResult};
+ghost use Rattle.console.specs.Piles.{pile_meaning, Names, Lacks, Begins};
+ghost use Rattle.console.specs.Lines.{Unread};
+ghost use Rattle.console.specs.Laws.PileSound.{pile_sound};
 
 use crate::answers::Fault;
 use lots::{Lot, Refusal};
-use rule::{Idle, Rule, Turned, Verdict};
-use rules::{House, NotFirst, Overload, TimeTable};
-use std::str::FromStr;
+use rule::{Both, Idle, Rule, Turned, Verdict};
+use rules::{NotFirst, Overload, TimeTable, house_pile};
+use std::alloc::Global;
 
-// A rule that stands alone.
-#[derive(Clone, Copy)]
-pub enum Base {
+// The most levels of a pile that is read: reading and applying it take room on the stack for each.
+const MAX_LEVELS: u16 = 500;
+
+#[derive(Drop)]
+pub enum Pile {
     Idle,
     Overload,
     TimeTable,
     NotFirst,
-}
-
-impl FromStr for Base {
-    type Err = Fault;
-
-    ghost from_str_gives = { λ word r. ReadsOrUnknown (λ b. word ≡ base_word b) r };
-
-    fn from_str(word: &str) -> Result<Base, Fault> {
-        match word {
-            "idle" => Ok(Base::Idle),
-            "overload" => Ok(Base::Overload),
-            "timetable" => Ok(Base::TimeTable),
-            "notfirst" => Ok(Base::NotFirst),
-            _ => Err(Fault::Unknown),
-        }
-    }
-}
-
-impl Rule for Base {
-    ghost meaning = { base_meaning };
-
-    ghost sound = { λ x. base_sound x };
-
-    fn apply(&self, capacity: u16, lots: &mut [Lot]) -> Result<Verdict, Refusal> {
-        // Arms: a `&dyn Rule` that is chosen by the same four is no plainer, and no function may hand one out.
-        match *self {
-            Base::Idle => Idle.apply(capacity, lots),
-            Base::Overload => Overload.apply(capacity, lots),
-            Base::TimeTable => TimeTable.apply(capacity, lots),
-            Base::NotFirst => NotFirst.apply(capacity, lots),
-        }
-    }
-}
-
-// A rule that stands alone, as it is or turned, or the house pile.
-#[derive(Clone, Copy)]
-pub enum Pile {
-    Plain(Base),
-    Turned(Base),
     House,
+    Turned(Box<Pile>),
+    Both(Box<Pile>, Box<Pile>),
 }
 
-impl FromStr for Pile {
-    type Err = Fault;
-
-    ghost from_str_gives = { λ word r. ReadsOrUnknown (λ p. word ≡ pile_word p) r };
-
-    fn from_str(word: &str) -> Result<Pile, Fault> {
-        if word == "house" {
-            return Ok(Pile::House);
+impl Pile {
+    // The pile that the word names. No `FromStr`, since a pile within another needs memory.
+    pub fn read(heap: Global, word: &str) -> Result<Pile, Fault>
+        ensures { MatchResult result (Names word.now) (λ f. Unread f ((p : Pile) → Names word.now p → ⊥)) }
+    {
+        let (pile, rest) = front(heap, MAX_LEVELS, word)?;
+        if !rest.is_empty() {
+            return Err(Fault::Unknown);
         }
-        let within = word
-            .strip_prefix("turned(")
-            .and_then(|rest| rest.strip_suffix(')'));
-        match within {
-            Some(base) => base.parse().map(Pile::Turned),
-            None => word.parse().map(Pile::Plain),
-        }
+        Ok(pile)
+    }
+}
+
+// The pile whose word the text begins with, and the rest of the text.
+fn front<'a>(heap: Global, levels: u16, text: &'a str) -> Result<(Pile, &'a str), Fault>
+    ensures { MatchResult result (λ r. Begins text.now levels r.0 r.1.now) (λ f. Unread f ((p : Pile) (x : List ℕ) → Begins text.now levels p x → ⊥)) }
+{
+    if levels == 0 {
+        return Err(Fault::Unknown);
+    }
+    if let Some(rest) = text.strip_prefix("turned(") {
+        let (pile, rest) = front(heap, levels - 1, rest)?;
+        let rest = past(")", rest)?;
+        return Ok((Pile::Turned(Box::new(heap, pile)?), rest));
+    }
+    if let Some(rest) = text.strip_prefix("both(") {
+        let (first, rest) = front(heap, levels - 1, rest)?;
+        let rest = past(",", rest)?;
+        let (second, rest) = front(heap, levels - 1, rest)?;
+        let rest = past(")", rest)?;
+        let pile = Pile::Both(Box::new(heap, first)?, Box::new(heap, second)?);
+        return Ok((pile, rest));
+    }
+    plain(text).ok_or(Fault::Unknown)
+}
+
+// The rest of a text that begins with the mark.
+fn past<'a>(mark: &str, text: &'a str) -> Result<&'a str, Fault>
+    ensures { MatchResult result (λ rest. text.now ≡ mark.now ++ rest.now) (λ f. Unread f (Lacks text.now mark.now)) }
+{
+    text.strip_prefix(mark).ok_or(Fault::Unknown)
+}
+
+// The same of a pile that stands alone. No name begins another, so the order does not matter.
+fn plain<'a>(text: &'a str) -> Option<(Pile, &'a str)>
+    ensures { MatchOption result ((p : Pile) (x : List ℕ) → Begins text.now 1 p x → ⊥) (λ r. Begins text.now 1 r.0 r.1.now) }
+{
+    if let Some(rest) = text.strip_prefix("idle") {
+        Some((Pile::Idle, rest))
+    } else if let Some(rest) = text.strip_prefix("overload") {
+        Some((Pile::Overload, rest))
+    } else if let Some(rest) = text.strip_prefix("timetable") {
+        Some((Pile::TimeTable, rest))
+    } else if let Some(rest) = text.strip_prefix("notfirst") {
+        Some((Pile::NotFirst, rest))
+    } else if let Some(rest) = text.strip_prefix("house") {
+        Some((Pile::House, rest))
+    } else {
+        None
     }
 }
 
@@ -84,10 +92,20 @@ impl Rule for Pile {
     ghost sound = { λ x. pile_sound x };
 
     fn apply(&self, capacity: u16, lots: &mut [Lot]) -> Result<Verdict, Refusal> {
-        match *self {
-            Pile::Plain(base) => base.apply(capacity, lots),
-            Pile::Turned(base) => Turned { rule: base }.apply(capacity, lots),
-            Pile::House => House.apply(capacity, lots),
+        match self {
+            Pile::Idle => Idle.apply(capacity, lots),
+            Pile::Overload => Overload.apply(capacity, lots),
+            Pile::TimeTable => TimeTable.apply(capacity, lots),
+            Pile::NotFirst => NotFirst.apply(capacity, lots),
+            Pile::House => house_pile().apply(capacity, lots),
+            Pile::Turned(rule) => Turned { rule: &**rule }.apply(capacity, lots),
+            Pile::Both(first, second) => {
+                let both = Both {
+                    first: &**first,
+                    second: &**second,
+                };
+                both.apply(capacity, lots)
+            }
         }
     }
 }

@@ -2,7 +2,7 @@
 ghost use Rattle.std.specs.Prelude.{◌≡◌, ℕ, List, length, MatchResult};
 ghost use Rattle.std.specs.List.{AllZip};
 ghost use Rattle.console.specs.Lines.{Unread, TableForm};
-ghost use Rattle.console.specs.Syntax.{Reads, Number, lot_numbers, Cell};
+ghost use Rattle.console.specs.Syntax.{Reads, Number, Budget, lot_numbers, Cell};
 
 use crate::answers::Fault;
 use crate::parts::Parts;
@@ -11,15 +11,22 @@ use std::alloc::Global;
 
 // No `FromStr` here: that of `u16` takes a plus sign, `Lot` is of another crate, and a type around each would be taken off at once.
 
-// The number that the word writes in decimal digits alone, where it fits.
-fn number(word: &str) -> Option<u16>
-    ensures { Reads (Number word.now) result }
+// The number of 32 bits that the word writes in decimal digits alone, where it fits.
+pub fn budget(word: &str) -> Option<u32>
+    ensures { Reads (Budget word.now) result }
 {
     // `parse` would take a plus sign.
     if word.starts_with('+') {
         return None;
     }
     word.parse().ok()
+}
+
+// The number of 16 bits, as above.
+fn number(word: &str) -> Option<u16>
+    ensures { Reads (Number word.now) result }
+{
+    u16::try_from(budget(word)?).ok()
 }
 
 // The numbers that the parts write, where there are just `N` of them.

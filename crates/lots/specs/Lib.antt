@@ -2,3 +2,4 @@ pub mod Limits
 pub mod Refusals
 pub mod Tables
 pub mod Schedules
+pub mod Checks

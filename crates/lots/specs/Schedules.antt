@@ -1,5 +1,5 @@
 -- Schedules of a table: a start for each lot.
-use Rattle.std.specs.Prelude.{ℕ, ◌+◌, ◌≤◌, max, Bool, cond, ◌&&◌, List, [], ◌∷◌, nat_le, nat_lt}
+use Rattle.std.specs.Prelude.{◌≡◌, ℕ, ◌+◌, ◌≤◌, max, Bool, cond, ◌&&◌, List, [], ◌∷◌, nat_le, nat_lt}
 use Rattle.lots.specs.declared.Lot.{Lot}
 
 -- whether the minute t lies in the half-open span from a to b: a ≤ t < b
@@ -28,3 +28,9 @@ abbrev pub end : List Lot → List ℕ → ℕ
 end [] ss = 0
 end (x ∷ xs) [] = 0
 end (x ∷ xs) (s ∷ ss) = max (s + x.p) (end xs ss)
+
+-- the starts ss are a schedule of T that ends at E, and no schedule of T ends earlier
+pub record BestSchedule (C : ℕ) (T : List Lot) (E : ℕ) (ss : List ℕ) : Type 0 where
+  pub schedule : Schedule C T ss
+  pub ends : end T ss ≡ E
+  pub least : (us : List ℕ) → Schedule C T us → E ≤ end T us

@@ -12,9 +12,13 @@ ect x = x.est + x.p
 abbrev pub lst : Lot → ℕ
 lst x = x.lct - x.p
 
--- the lot of a number, from 0; past the last, one of zeros
+-- no lot: four zeros
+abbrev pub blank : Lot
+blank = record { est = 0; lct = 0; p = 0; c = 0 }
+
+-- the lot of a number, from 0; past the last, a blank one
 abbrev pub lot_at : List Lot → ℕ → Lot
-lot_at T j = slice_index_or T j (record { est = 0; lct = 0; p = 0; c = 0 })
+lot_at T j = slice_index_or T j blank
 
 -- one lot under the capacity C
 pub record LawfulLot (C : ℕ) (x : Lot) : Type 0 where

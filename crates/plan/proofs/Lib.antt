@@ -1,5 +1,6 @@
 pub mod Appends
 pub mod Windows
 pub mod Tables
+pub mod Searches
 pub mod Tallies
 pub mod Histories

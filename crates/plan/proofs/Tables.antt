@@ -5,7 +5,8 @@ use Rattle.std.proofs.ByRecursion.{All-push, All-set, All-get_or}
 use Rattle.lots.specs.Tables.{lot_at, LawfulLot}
 use Rattle.lots.specs.declared.Lot.{Lot}
 use Rattle.plan.specs.Tables.{Table, LawfulTable, empty, with_lot, between, with_between}
-use Rattle.plan.specs.Calls.{Passed, open_checks, admit_checks, Admitted, narrow_checks, Narrowed}
+use Rattle.lots.specs.Checks.{Passed}
+use Rattle.plan.specs.Calls.{open_checks, admit_checks, Admitted, narrow_checks, Narrowed}
 
 pub empty_lawful : (C : ℕ) → Passed (open_checks C) → LawfulTable (empty C)
 empty_lawful C k = grind arith

@@ -1,16 +1,19 @@
 -- The plan's step and the book's entry keep the two in tally.
-use Rattle.std.proofs.Common.{◌≡◌, ℕ, ◌+◌, ◌<◌, max, List, [], ◌∷◌, length, sym, refl, ◌∙◌, subst, ap₂, arith}
+use Rattle.std.proofs.Common.{◌≡◌, ℕ, ◌<◌, List, length, sym, refl, ◌∙◌, subst, arith}
 use Rattle.std.proofs.lemmas.List.Elements.{length_all_zip, AllZip-push}
-use Rattle.lots.specs.Schedules.{Schedule, end}
+use Rattle.lots.specs.Schedules.{Schedule}
 use Rattle.lots.specs.declared.Lot.{Lot}
 use Rattle.rule.specs.Meanings.{SameWork, Keeps}
 use Rattle.rule.proofs.Chains.{Kept, kept_back, settled_kept}
+use Rattle.rule.proofs.Schedules.{end_same}
 use Rattle.rule.specs.Laws.Tables.{same_work_sym, same_work_trans}
-use Rattle.plan.specs.Tables.{Table, LawfulTable, ScheduleOf, SameSchedules, Best, empty, with_lot, with_between}
-use Rattle.plan.specs.Calls.{Passed, open_checks, admit_checks, narrow_checks}
-use Rattle.plan.specs.Book.{opening, admitting, narrowing, tightening, Entry, accepted, refused, enter}
+use Rattle.plan.specs.Tables.{Table, LawfulTable, ScheduleOf, SameSchedules, NoSchedule, Best, empty, with_lot, with_between}
+use Rattle.lots.specs.Checks.{Passed}
+use Rattle.plan.specs.Calls.{open_checks, admit_checks, narrow_checks}
+use Rattle.plan.specs.Book.{opening, admitting, narrowing, tightening, solving, Entry, accepted, refused, enter}
 use Rattle.plan.specs.History.{Step}
 use Rattle.plan.specs.Promise.{AnswersTo}
+use Rattle.plan.proofs.Searches.{searches}
 use Rattle.plan.proofs.Appends.{push_keeps}
 use Rattle.plan.proofs.Windows.{both_between_work, between_keeps}
 use Rattle.plan.proofs.Tables.{empty_lawful, with_lot_lawful, with_between_lawful}
@@ -69,24 +72,18 @@ tally_step (accepted (tightening m)) B T U s h =
     let k = settled_kept m s.0 T.capacity T.lots U.lots h.lawful s.1 s.2 s.3.settled in
     let e : record { capacity = T.capacity; lots = U.lots } ≡ U = λ i. record { capacity = sym s.3.same_capacity i; lots = U.lots } in
     subst (Tally B) e (tally_kept B T U.lots k h)
+tally_step (accepted (solving m budget cs ss)) B T U s h = subst (Tally B) (sym s.1) h
 tally_step (refused (opening C)) B T U s h = subst (Tally B) (sym s.1.1) h
 tally_step (refused (admitting x)) B T U s h = subst (Tally B) (sym s.1.1) h
 tally_step (refused (narrowing i a b)) B T U s h = subst (Tally B) (sym s.1.1) h
 tally_step (refused (tightening m)) B T U s h = absurd s
+tally_step (refused (solving m budget cs ss)) B T U s h = subst (Tally B) (sym s.1) h
 
-tally_schedules : {B T : Table} → Tally B T → SameSchedules B T
+pub tally_schedules : {B T : Table} → Tally B T → SameSchedules B T
 tally_schedules {B} {T} h ss = (
   λ s. h.there ss (subst (λ C. Schedule C B.lots ss) h.trays s),
   λ s. subst (λ C. Schedule C B.lots ss) (sym h.trays) (h.back ss s),
 )
-
--- the end is of the work alone
-end_same : (T U : List Lot) (ss : List ℕ) → SameWork T U → end U ss ≡ end T ss
-end_same [] [] ss w = refl
-end_same [] (y ∷ ys) ss w = absurd w
-end_same (x ∷ xs) [] ss w = absurd w
-end_same (x ∷ xs) (y ∷ ys) [] w = refl
-end_same (x ∷ xs) (y ∷ ys) (s ∷ ss) w = ap₂ (λ p n. max (s + p) n) w.0.0 (end_same xs ys ss w.1)
 
 -- what is best of a table is best of another with the same work and schedules
 best_same : (T U : Table) (E : ℕ) (ss : List ℕ) → SameWork T.lots U.lots → ((us : List ℕ) → ScheduleOf T us → ScheduleOf U us) → ((us : List ℕ) → ScheduleOf U us → ScheduleOf T us) → Best T E ss → Best U E ss
@@ -99,14 +96,15 @@ best_same T U E ss w there back b = record {
 pub tally_answers : {B T : Table} → Tally B T → AnswersTo B T
 tally_answers {B} {T} h =
     let same = tally_schedules h in
+    let hopeless : NoSchedule T → NoSchedule B = λ none ss s. none ss ((same ss).0 s) in
+    let bests : (E : ℕ) (ss : List ℕ) → Best T E ss → Best B E ss =
+    λ E ss. best_same T B E ss (same_work_sym B.lots T.lots h.work) (λ us. (same us).1) (λ us. (same us).0) in
     record {
       lawful = h.lawful;
       same_capacity = sym h.trays;
       same_work = h.work;
       same_schedules = same;
-      same_best = λ E ss. (
-        best_same B T E ss h.work (λ us. (same us).0) (λ us. (same us).1),
-        best_same T B E ss (same_work_sym B.lots T.lots h.work) (λ us. (same us).1) (λ us. (same us).0),
-      );
-      same_hopeless = (λ none ss s. none ss ((same ss).1 s), λ none ss s. none ss ((same ss).0 s));
+      same_best = λ E ss. (best_same B T E ss h.work (λ us. (same us).0) (λ us. (same us).1), bests E ss);
+      same_hopeless = (λ none ss s. none ss ((same ss).1 s), hopeless);
+      searches = searches B T h.lawful (sym (length_all_zip _ B.lots T.lots h.work)) bests hopeless;
     }

@@ -10,6 +10,8 @@ pub data Call : Type 0 where
   admitting : Lot → Call
   narrowing : ℕ → ℕ → ℕ → Call
   tightening : Meaning → Call
+  -- with a budget, the cells of a trail and a place for starts
+  solving : Meaning → ℕ → List Lot → List ℕ → Call
 
 -- a call, and whether it was accepted
 pub data Entry : Type 0 where
@@ -27,6 +29,7 @@ enter (accepted (opening C)) B = empty C
 enter (accepted (admitting x)) B = with_lot x B
 enter (accepted (narrowing i a b)) B = with_between i a b B
 enter (accepted (tightening m)) B = B
+enter (accepted (solving m budget cs ss)) B = B
 enter (refused c) B = B
 
 -- the book of these entries, the latest of which comes first

@@ -1,5 +1,6 @@
 -- What each call answers and leaves behind, where T is the table before it and U the table after it.
-use Rattle.std.specs.Prelude.{◌≡◌, ℕ, ◌+◌, ◌<◌, ◌≤◌, ◌⊎◌, List, [], ◌∷◌, length, Ok, Err, Result}
+use Rattle.std.specs.Prelude.{◌≡◌, ℕ, ◌+◌, ◌<◌, ◌≤◌, ◌⊎◌, List, [], ◌∷◌, length, Result}
+use Rattle.lots.specs.Checks.{Check, Checked}
 use Rattle.lots.specs.Limits.{horizon, max_capacity, max_lots}
 use Rattle.lots.specs.Tables.{ect, lot_at}
 use Rattle.lots.specs.declared.Lot.{Lot}
@@ -9,26 +10,6 @@ use Rattle.rule.specs.Meanings.{Meaning}
 use Rattle.rule.specs.Settled.{slack, Settled}
 use Rattle.rule.specs.declared.Verdict.{Verdict}
 use Rattle.plan.specs.Tables.{Table, empty, with_lot, between, with_between}
-
--- a refusal, and when it applies
-pub record Check : Type 1 where
-  pub refusal : Refusal
-  pub applies : Type 0
-
--- none of the checks applies
-abbrev pub Passed : List Check → Type 0
-Passed [] = Unit {0}
-Passed (k ∷ ks) = (k.applies → ⊥) × Passed ks
-
--- the first check that applies is the refusal e
-abbrev pub Refused : List Check → Refusal → Type 0
-Refused [] e = ⊥
-Refused (k ∷ ks) e = (k.applies × (e ≡ k.refusal)) ⊎ ((k.applies → ⊥) × Refused ks e)
-
--- an answer behind checks: the first that applies is given, and then Q holds; where none applies, P holds of the answer
-abbrev pub Checked : {X : Type 0} → List Check → Type 0 → (X → Type 0) → Result X Refusal → Type 0
-Checked ks Q P (Ok x) = Passed ks × P x
-Checked ks Q P (Err e) = Refused ks e × Q
 
 abbrev pub open_checks : ℕ → List Check
 open_checks C = record { refusal = Capacity; applies = (C ≡ 0) ⊎ (max_capacity < C) } ∷ []

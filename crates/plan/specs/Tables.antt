@@ -1,6 +1,6 @@
 -- A table as one value, its schedules, and what a call may make of it.
-use Rattle.std.specs.Prelude.{◌≡◌, ℕ, ◌≤◌, min, max, List, [], ◌∷◌, ◌++◌, slice_set}
-use Rattle.lots.specs.Schedules.{Schedule, end}
+use Rattle.std.specs.Prelude.{ℕ, min, max, List, [], ◌∷◌, ◌++◌, slice_set}
+use Rattle.lots.specs.Schedules.{Schedule, BestSchedule}
 use Rattle.lots.specs.Tables.{lot_at, Lawful}
 use Rattle.lots.specs.declared.Lot.{Lot}
 
@@ -24,10 +24,8 @@ abbrev pub NoSchedule : Table → Type 0
 NoSchedule T = (ss : List ℕ) → ScheduleOf T ss → ⊥
 
 -- the starts ss are a schedule of T that ends at E, and no schedule of T ends earlier
-pub record Best (T : Table) (E : ℕ) (ss : List ℕ) : Type 0 where
-  pub schedule : ScheduleOf T ss
-  pub ends : end T.lots ss ≡ E
-  pub least : (us : List ℕ) → ScheduleOf T us → E ≤ end T.lots us
+abbrev pub Best : Table → ℕ → List ℕ → Type 0
+Best T E ss = BestSchedule T.capacity T.lots E ss
 
 -- no lots under the capacity C
 abbrev pub empty : ℕ → Table

@@ -1,16 +1,19 @@
 // The calls on a plan. A refused call alters nothing. Each says apart what it answers and that it follows the book,
 // since the two are read by different readers.
-ghost use Rattle.std.specs.Prelude.{◌≡◌, []};
+ghost use Rattle.std.specs.Prelude.{◌≡◌, List, [], IfOk};
 ghost use Rattle.plan.specs.Tables.{empty};
 ghost use Rattle.plan.specs.Calls.{Opened, Admitted, Narrowed, Tightened};
-ghost use Rattle.plan.specs.Book.{opening, admitting, narrowing, tightening, accepted, noted};
+ghost use Rattle.tree.specs.Answer.{Solved};
+ghost use Rattle.plan.specs.Book.{opening, admitting, narrowing, tightening, solving, Entry, accepted, noted, book};
 ghost use Rattle.plan.specs.History.{History, Begins, Follows};
+ghost use Rattle.plan.specs.Promise.{SearchAnswersTo};
 
 use crate::Plan;
 use crate::checks::{admission, narrowed};
 use arrayvec::ArrayVec;
-use lots::{Lot, MAX_CAPACITY, Refusal};
+use lots::{Lot, MAX_CAPACITY, Refusal, Table};
 use rule::{Rule, Verdict, settle};
+use tree::Search;
 
 impl Plan {
     // No lots, and a capacity of 1.
@@ -67,6 +70,23 @@ impl Plan {
     {
         // A lawful table is never refused.
         settle(rule, self.capacity, self.lots.as_mut_slice()).unwrap()
+    }
+
+    // Finds a best schedule in at most so many nodes, with a lent trail for those that are unvisited, and writes its starts.
+    pub fn solve<R: Rule>(
+        &self,
+        rule: &R,
+        budget: u32,
+        trail: &mut [Lot],
+        starts: &mut [u16],
+    ) -> Result<Search, Refusal>
+        ensures exact { Solved (R.meaning rule.now) self.now.capacity self.now.lots budget trail.old trail.new starts.old starts.new result }
+        ensures follows { Follows (noted (solving (R.meaning rule.now) budget trail.old starts.old) result) self.now self.now }
+        ensures promised { IfOk result (λ a. (es : List Entry) → History es self.now → SearchAnswersTo (R.meaning rule.now) (book es) self.now budget starts.new a) }
+    {
+        // The table of a plan is lawful.
+        let table = Table::new(self.capacity, self.lots.as_slice()).unwrap();
+        tree::solve(rule, table, budget, trail, starts)
     }
 }
 

@@ -1,6 +1,7 @@
 // What is asked of a lot before a plan takes it, and of a window before a lot gets it.
 ghost use Rattle.std.specs.Prelude.{◌≡◌};
-ghost use Rattle.plan.specs.Calls.{Checked, admit_checks, window_checks};
+ghost use Rattle.lots.specs.Checks.{Checked};
+ghost use Rattle.plan.specs.Calls.{admit_checks, window_checks};
 ghost use Rattle.plan.specs.Tables.{between};
 
 use lots::{HORIZON, Lot, MAX_LOTS, Refusal};

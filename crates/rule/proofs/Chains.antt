@@ -37,7 +37,8 @@ kept_trans C T U V k l = record {
   keeps = λ ss s. l.keeps ss (k.keeps ss s);
 }
 
-placed_back : (T U : List Lot) (ss : List ℕ) → SameWork T U → Narrower T U → Placed U ss → Placed T ss
+-- starts placed in a narrower table of the same work are placed in the table
+pub placed_back : (T U : List Lot) (ss : List ℕ) → SameWork T U → Narrower T U → Placed U ss → Placed T ss
 placed_back [] [] ss w n p = p
 placed_back [] (y ∷ ys) ss w n p = absurd w
 placed_back (x ∷ xs) [] ss w n p = absurd w

@@ -16,7 +16,8 @@ slack_le [] (y ∷ ys) w n = absurd w
 slack_le (x ∷ xs) [] w n = absurd w
 slack_le (x ∷ xs) (y ∷ ys) w n = let h = slack_le xs ys w.1 n.1 in omega arith
 
-slack_same : (C : ℕ) (T U : List Lot) → AllByRecursion (LawfulLot C) T → AllByRecursion (LawfulLot C) U → SameWork T U → Narrower T U → slack T ≤ slack U → U ≡ T
+-- a narrower table of the same work with no less room is the table
+pub slack_same : (C : ℕ) (T U : List Lot) → AllByRecursion (LawfulLot C) T → AllByRecursion (LawfulLot C) U → SameWork T U → Narrower T U → slack T ≤ slack U → U ≡ T
 slack_same C [] [] f h w n s = refl
 slack_same C [] (y ∷ ys) f h w n s = absurd w
 slack_same C (x ∷ xs) [] f h w n s = absurd w

@@ -54,3 +54,14 @@ pub trait Rule {
 
     ghost sound: { (x : Self) → Sound (meaning x) };
 }
+
+// A rule that is lent is the rule.
+impl<'a, X: Rule> Rule for &'a X {
+    ghost meaning = { λ x. X.Rule.meaning x.now };
+
+    ghost sound = { λ x. X.Rule.sound x.now };
+
+    fn apply(&self, capacity: u16, lots: &mut [Lot]) -> Result<Verdict, Refusal> {
+        (**self).apply(capacity, lots)
+    }
+}

@@ -1,4 +1,5 @@
 // The pile that the house uses.
+ghost use Rattle.std.specs.Prelude.{◌≡◌};
 ghost use Rattle.rules.specs.House.{house as the_house};
 ghost use Rattle.rules.specs.Laws.HouseSound.{house_sound};
 
@@ -14,7 +15,18 @@ type Pile = Both<
 
 // The house pile, as a rule of a type of its own: its meaning is one definition.
 #[derive(Clone, Copy, Debug)]
-pub struct House;
+pub struct House {
+    pile: Pile,
+}
+
+// The house pile.
+pub fn house_pile() -> House
+    ensures { ⟦<House as Rule>⟧.meaning result ≡ the_house }
+{
+    House {
+        pile: Pile::default(),
+    }
+}
 
 impl Rule for House {
     ghost meaning = { λ _. the_house };
@@ -22,7 +34,7 @@ impl Rule for House {
     ghost sound = { λ x. house_sound };
 
     fn apply(&self, capacity: u16, lots: &mut [Lot]) -> Result<Verdict, Refusal> {
-        Pile::default().apply(capacity, lots)
+        self.pile.apply(capacity, lots)
     }
 }
 
@@ -37,7 +49,7 @@ mod tests {
             Lot::new(259, 261, 1, 2),
             Lot::new(259, 260, 1, 3),
         ];
-        assert_eq!(rt; House.apply(3, &mut lots), Ok(Verdict::Moved));
+        assert_eq!(rt; house_pile().apply(3, &mut lots), Ok(Verdict::Moved));
         assert_eq!(rt;
             lots,
             [
@@ -51,8 +63,8 @@ mod tests {
     #[test]
     fn a_dead_pile_leaves_the_table(rt: HostRuntime) {
         let mut lots = [Lot::new(4, 6, 2, 2), Lot::new(0, 6, 5, 1)];
-        assert_eq!(rt; House.apply(2, &mut lots), Ok(Verdict::Dead));
-        assert_eq!(rt; House.apply(1, &mut lots), Err(Refusal::Unlawful));
+        assert_eq!(rt; house_pile().apply(2, &mut lots), Ok(Verdict::Dead));
+        assert_eq!(rt; house_pile().apply(1, &mut lots), Err(Refusal::Unlawful));
         assert_eq!(rt; lots, [Lot::new(4, 6, 2, 2), Lot::new(0, 6, 5, 1)]);
     }
 }

@@ -90,6 +90,8 @@ impl Rule for TimeTable {
 
     ghost sound = { λ x. time_table_sound };
 
+    // Not inlined: a caller would keep the loads of the week's minutes on its own stack, and a pile once for each level.
+    #[inline(never)]
     fn apply(&self, capacity: u16, lots: &mut [Lot]) -> Result<Verdict, Refusal> {
         let table = Table::new(capacity, lots)?;
         let loads = Loads::of(table);

@@ -1,5 +1,5 @@
 use Rattle.std.proofs.Common.{◌≡◌, ◌∷◌, rules}
-use Rattle.console.specs.Lines.{overflow_call, rule_call, open_call, admit_call, narrow_call, tighten_call, windows_call, word_of}
+use Rattle.console.specs.Lines.{overflow_call, rule_call, open_call, admit_call, narrow_call, tighten_call, solve_call, windows_call, word_of}
 use Rattle.console.specs.Syntax.{pieces, space}
 use Rattle.console.proofs.Asked.{comes_named}
 use Rattle.console.proofs.Texts.{text_from_known}
@@ -37,6 +37,11 @@ pub returns-in-Some-tighten : goal.returns-in-Some-tighten
 returns-in-Some-tighten c =
     let named : pieces space c.args.line.now ≡ word_of tighten_call ∷ c.next.new.self = search rules in
     rw named (comes_named tighten_call c.next.new.self _ _ c.tighten.result c.tighten.ensures)
+
+pub returns-in-Some-solve : goal.returns-in-Some-solve
+returns-in-Some-solve c =
+    let named : pieces space c.args.line.now ≡ word_of solve_call ∷ c.next.new.self = search rules in
+    rw named (comes_named solve_call c.next.new.self _ _ c.solve.result c.solve.ensures)
 
 pub returns-in-Some-windows : goal.returns-in-Some-windows
 returns-in-Some-windows c =

@@ -1,5 +1,4 @@
-use Rattle.std.proofs.Common.{◌≡◌, ℕ, List, ◌++◌, length, take, drop, Ok, Err, vec_items, Result, ◌∙◌, refl, arith, rules}
-use Rattle.std.proofs.lemmas.List.{take_all, take-append-le}
+use Rattle.std.proofs.Common.{◌≡◌, ℕ, List, ◌++◌, length, take, drop, Ok, Err, vec_items, Result, refl, rules}
 use Rattle.std.proofs.lemmas.Result.{err_from_is_err_and}
 use Rattle.lots.specs.declared.Lot.{Lot}
 use Rattle.lots.specs.declared.Refusal.{Refusal}
@@ -7,13 +6,13 @@ use Rattle.rule.specs.Meanings.{Meaning, Applied}
 use Rattle.rule.specs.declared.Verdict.{Verdict}
 use Rattle.console.specs.Lines.{RuleForm}
 use Rattle.console.specs.Piles.{pile_meaning}
+use Rattle.console.proofs.Loans.{given_back}
 use Rattle.console.proofs.calls.rule.Goals as goal
 
 -- an application that leaves U leaves what a loan of all n items gives back to a vector
 applied_filled : (m : Meaning) (C n : ℕ) (T U rest : List Lot) (r : Result Verdict Refusal) → length U ≡ n → Applied m C T U r → Applied m C T (take n (U ++ rest)) r
 applied_filled m C n T U rest r count applied =
-    let filled = take-append-le n U rest (omega (arith, count)) ∙ take_all n U (omega (arith, count)) in
-    rw filled applied
+    rw (given_back n U rest count) applied
 
 pub returns-in_err-verdict : goal.returns-in_err-verdict
 returns-in_err-verdict c =

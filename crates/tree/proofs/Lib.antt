@@ -1,0 +1,14 @@
+pub mod Ways
+pub mod Nodes
+pub mod Outcomes
+pub mod Once
+pub mod Law
+pub mod Loads
+pub mod Picks
+pub mod Looks
+pub mod Cells
+pub mod Stacks
+pub mod Visits
+pub mod Runs
+pub mod Tells
+pub mod Means

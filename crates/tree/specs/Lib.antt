@@ -1,0 +1,4 @@
+pub mod Tree
+pub mod Stack
+pub mod Held
+pub mod Answer

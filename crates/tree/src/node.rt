@@ -1,0 +1,105 @@
+// One node of the tree: what the best known and the rule leave of its lots, and what becomes of it.
+ghost use Rattle.std.specs.Prelude.{◌≡◌, ◌↔◌, IsTrue};
+ghost use Rattle.lots.specs.Schedules.{end as end_of};
+ghost use Rattle.lots.specs.Tables.{Lawful};
+ghost use Rattle.tree.specs.Tree.{under, Fits, starts as starts_of};
+ghost use Rattle.tree.specs.Held.{best_known, BranchLot, Seen};
+
+use crate::load::{is_within, last_end};
+use arrayvec::ArrayVec;
+use lots::{Lot, MAX_LOTS, Table};
+use rule::{Rule, Verdict, settle};
+
+// The starts of a schedule by number, and when it ends.
+#[derive(Drop)]
+pub(crate) struct Schedule {
+    pub(crate) end: u16,
+    pub(crate) starts: ArrayVec<u16, MAX_LOTS>,
+}
+
+impl Schedule {
+    // Every lot at its est.
+    fn of(table: Table<'_>) -> Schedule
+        ensures end { result.end ≡ end_of table.entry.lots.now (starts_of table.entry.lots.now) }
+        ensures starts { result.starts.items ≡ starts_of table.entry.lots.now }
+    {
+        let mut starts = ArrayVec::new();
+        // A loop: `from_iter` asks for an allocator, and `extend` gives a `Result`, though the lots of a table always fit.
+        for lot in table.lots {
+            starts.push(lot.est);
+        }
+        Schedule {
+            end: last_end(table.lots) as u16,
+            starts,
+        }
+    }
+}
+
+// What becomes of a visited node.
+#[derive(Drop)]
+pub(crate) enum Node {
+    // It is closed, and the best known stays.
+    Closed,
+    // It is closed, and this is the best known now.
+    Found(Schedule),
+    // The two nodes below it are branched on the lot with this number.
+    Fork(usize),
+}
+
+// Has each lot out before the end of the best known, and answers whether every run fits then.
+fn cut_under(best: &Option<Schedule>, lots: &mut [Lot]) -> bool
+    requires { Fits lots.old }
+    ensures cut { lots.new ≡ under (best_known best.now) lots.old }
+    ensures fits { IsTrue result ↔ Fits lots.new }
+{
+    let Some(schedule) = best else {
+        return true;
+    };
+    let last = schedule.end.saturating_sub(1);
+    for lot in lots.iter_mut() {
+        lot.lct = lot.lct.min(last);
+    }
+    lots.iter().all(|lot| lot.fits())
+}
+
+// The lot to branch on: of those with a choice of starts the first of the least est.
+fn branch_lot(lots: &[Lot]) -> Option<usize>
+    ensures { BranchLot lots.now result }
+{
+    let mut pick: Option<usize> = None;
+    for (number, lot) in lots.iter().enumerate() {
+        if lot.est < lot.lst() && pick.is_none_or(|j| lot.est < lots[j].est) {
+            pick = Some(number);
+        }
+    }
+    pick
+}
+
+// Looks at a node: writes what is left of its lots over them, and answers what becomes of it.
+pub(crate) fn look<R: Rule>(
+    rule: &R,
+    capacity: u16,
+    best: &Option<Schedule>,
+    lots: &mut [Lot],
+) -> Node
+    requires { Lawful capacity lots.old }
+    ensures { Seen (R.meaning rule.now) capacity (best_known best.now) lots.old lots.new result }
+{
+    if !cut_under(best, lots) {
+        return Node::Closed;
+    }
+    // A lawful table is never refused.
+    let (verdict, _) = settle(rule, capacity, lots).unwrap();
+    if let Verdict::Dead = verdict {
+        return Node::Closed;
+    }
+    if let Some(j) = branch_lot(lots) {
+        return Node::Fork(j);
+    }
+    let table = Table { capacity, lots };
+    if is_within(table) {
+        Node::Found(Schedule::of(table))
+    } else {
+        Node::Closed
+    }
+}

@@ -1,0 +1,4 @@
+pub mod Found
+pub mod Outcomes
+pub mod Visits
+pub mod Cases

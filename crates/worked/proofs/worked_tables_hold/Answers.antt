@@ -1,0 +1,5 @@
+use Rattle.worked.proofs.Cases.{all_hold}
+use Rattle.worked.proofs.worked_tables_hold.Goals as goal
+
+pub returns : goal.returns
+returns c = all_hold
