@@ -14,7 +14,7 @@ pub use array_row::ArrayRow;
 pub use profile::Profile;
 pub use row::{Keyed, Place, Row};
 
-// The work that is left over at the latest lct of a table, and the number of points of its profile: a pair, by a rule of the project.
+// The work that is left over at the latest lct of a table, and the number of points of its profile: a pair, which callers take apart.
 pub fn overflow_of(table: Table<'_>) -> (u32, usize)
     ensures answer { Answered table.entry.capacity table.entry.lots.now (Ok result) }
     ensures points { FewPoints table.entry.lots.now (Ok result) }

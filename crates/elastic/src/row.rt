@@ -25,8 +25,7 @@ pub trait Keyed {
         ensures { result ≡ keyed self.now };
 }
 
-// The first `len` of some lent cells, or all of them where there are fewer. That cells are lent is a rule of the project;
-// a vector would own them.
+// The first `len` of some lent cells, or all of them where there are fewer. The cells are lent: nothing here allocates.
 #[derive(Drop)]
 pub struct Row<'a, E> {
     cells: &'a mut [E],

@@ -72,7 +72,7 @@ pub fn is_lawful(capacity: u16, lots: &[Lot]) -> bool
     if capacity < 1 || capacity > MAX_CAPACITY {
         return false;
     }
-    // A loop over the lots with their numbers is a rule of the project: each is looked at, and named by its number.
+    // Each lot is looked at, and named by its number.
     for (number, lot) in lots.iter().enumerate() {
         if number >= MAX_LOTS || !lot.is_lawful(capacity) {
             return false;

@@ -4,3 +4,5 @@ pub mod Tables
 pub mod Searches
 pub mod Tallies
 pub mod Histories
+pub mod Once
+pub mod Some

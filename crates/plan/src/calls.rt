@@ -1,9 +1,10 @@
 // The calls on a plan. A refused call alters nothing. Each says apart what it answers and that it follows the book,
 // since the two are read by different readers.
-ghost use Rattle.std.specs.Prelude.{◌≡◌, List, [], IfOk};
+ghost use Rattle.std.specs.Prelude.{◌≡◌, ◌-◌, ◌*◌, ◌≤◌, List, [], IfOk};
 ghost use Rattle.plan.specs.Tables.{empty};
 ghost use Rattle.plan.specs.Calls.{Opened, Admitted, Narrowed, Tightened};
-ghost use Rattle.tree.specs.Answer.{Solved};
+ghost use Rattle.tree.specs.Answer.{nodes as nodes_of, Solved};
+ghost use Rattle.tree.specs.Tree.{ways};
 ghost use Rattle.plan.specs.Book.{opening, admitting, narrowing, tightening, solving, Entry, accepted, noted, book};
 ghost use Rattle.plan.specs.History.{History, Begins, Follows};
 ghost use Rattle.plan.specs.Promise.{SearchAnswersTo};
@@ -82,6 +83,7 @@ impl Plan {
     ) -> Result<Search, Refusal>
         ensures exact { Solved (R.meaning rule.now) self.now.capacity self.now.lots budget trail.old trail.new starts.old starts.new result }
         ensures follows { Follows (noted (solving (R.meaning rule.now) budget trail.old starts.old) result) self.now self.now }
+        ensures short { IfOk result (λ a. nodes_of a ≤ 2 * ways self.now.lots - 1) }
         ensures promised { IfOk result (λ a. (es : List Entry) → History es self.now → SearchAnswersTo (R.meaning rule.now) (book es) self.now budget starts.new a) }
     {
         // The table of a plan is lawful.

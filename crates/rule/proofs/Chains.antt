@@ -1,5 +1,5 @@
 -- What moves and chains of applications of a sound rule keep, and that there is one chain from each table.
-use Rattle.std.proofs.Common.{◌≡◌, ◌≢◌, ℕ, suc, ◌+◌, ◌≤◌, List, [], ◌∷◌, Ok, Err, Result, sym, refl, ap, subst, arith}
+use Rattle.std.proofs.Common.{◌≡◌, ◌≢◌, ℕ, suc, ◌+◌, ◌≤◌, List, [], ◌∷◌, Ok, Err, Result, sym, refl, ap, ◌∙◌, subst, arith}
 use Rattle.lots.specs.Schedules.{Placed}
 use Rattle.lots.specs.Tables.{Lawful}
 use Rattle.lots.specs.declared.Lot.{Lot}
@@ -130,3 +130,36 @@ settled_kept m p C T U ok Dead k (n, W, count, h, e, same) = subst (Kept C T) (s
 pub settles_lawful : (m : Meaning) → Sound m → (C : ℕ) (T U : List Lot) (r : Result (Verdict × ℕ) Refusal) → Lawful C T → Settles m C T U r → Lawful C U
 settles_lawful m p C T U (Ok (v, k)) ok s = (settled_kept m p C T U ok v k s.1).lawful
 settles_lawful m p C T U (Err e) ok s = absurd (s.0 ok)
+
+-- what a settling comes to
+abbrev settled_outcome : Verdict → List Lot → Outcome
+settled_outcome Still U = to U
+settled_outcome Moved U = to U
+settled_outcome Dead U = dead
+
+pub settled_chain : (m : Meaning) (C : ℕ) (T U : List Lot) (v : Verdict) (k : ℕ) → Settled m C T U v k → Chain m C T k (settled_outcome v U)
+settled_chain m C T U Still k s = subst (λ i. Chain m C T i (to U)) (sym s.0) (subst (λ W. Chain m C T 1 (to W)) (sym s.2) (still s.1))
+settled_chain m C T U Moved k (n, some, count, h, e) = subst (λ i. Chain m C T i (to U)) (omega arith) (moves_then m C T h 1 (to U) (still e))
+settled_chain m C T U Dead k (n, W, count, h, e, same) = subst (λ i. Chain m C T i dead) (omega arith) (moves_then m C T h 1 dead (dies e))
+
+settled_told : (m : Meaning) (C : ℕ) (T U V : List Lot) (v w : Verdict) (k j : ℕ) → Settled m C T U v k → Settled m C T V w j → k ≡ j → settled_outcome v U ≡ settled_outcome w V → (U ≡ V) × (v ≡ w) × (k ≡ j)
+settled_told m C T U V Still Still k j s t e o = (cc, refl, e)
+settled_told m C T U V Still Moved k j s t e o = absurd (omega (arith, s.0, t.1, t.2))
+settled_told m C T U V Still Dead k j s t e o = absurd (cc)
+settled_told m C T U V Moved Still k j s t e o = absurd (omega (arith, s.1, s.2, t.0))
+settled_told m C T U V Moved Moved k j s t e o = (cc, refl, e)
+settled_told m C T U V Moved Dead k j s t e o = absurd (cc)
+settled_told m C T U V Dead Still k j s t e o = absurd (cc)
+settled_told m C T U V Dead Moved k j s t e o = absurd (cc)
+settled_told m C T U V Dead Dead k j s t e o = (s.5 ∙ sym t.5, refl, e)
+
+-- settling has one answer
+pub settled_one : (m : Meaning) (C : ℕ) (T U V : List Lot) (v w : Verdict) (k j : ℕ) → Settled m C T U v k → Settled m C T V w j → (U ≡ V) × (v ≡ w) × (k ≡ j)
+settled_one m C T U V v w k j s t =
+    let c = chain_same m C T (settled_chain m C T U v k s) (settled_chain m C T V w j t) in
+    settled_told m C T U V v w k j s t c.0 c.1
+
+-- where moves lead to a table at which the rule is still, settling has an answer
+pub settled_at : (m : Meaning) (C : ℕ) (T U : List Lot) (n : ℕ) → Moves m C T n U → m C U ≡ to U → (v : Verdict) × (k : ℕ) × Settled m C T U v k
+settled_at m C T U n none e = (Still, 1, (refl, e, refl))
+settled_at m C T U n (more {n = i} h e ne) f = (Moved, suc (suc i), (suc i, omega arith, refl, more h e ne, f))

@@ -113,7 +113,7 @@ impl Candidate<'_> {
     }
 }
 
-// The new bounds of the lots, by number. The loop over the lots with their numbers is a rule of the project for each of the two rules that raise starts.
+// The new bounds of the lots: each lot is looked at by its number.
 fn bounds_of(table: Table<'_>, cuts: &ArrayRow<Cut, MAX_LOTS>) -> [u16; MAX_LOTS]
     ensures { (i : ℕ) → i < length table.entry.lots.now → slice_index result i ≡ greatest_end_bound table.entry.capacity table.entry.lots.now i (cut_ends cuts.now) }
 {

@@ -74,7 +74,7 @@ impl<'a> Loads<'a> {
     {
         // An array: 0 past the last lot is no bound.
         let mut bounds = [0; MAX_LOTS];
-        // The loop over the lots with their numbers is a rule of the project for each of the two rules that raise starts.
+        // Each lot is looked at, with its number.
         for (number, lot) in self.table.lots.iter().enumerate() {
             bounds[number] = self.bound(*lot);
         }

@@ -3,6 +3,7 @@ pub mod Nodes
 pub mod Outcomes
 pub mod Once
 pub mod Law
+pub mod Answers
 pub mod Loads
 pub mod Picks
 pub mod Looks

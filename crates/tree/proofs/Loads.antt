@@ -1,10 +1,11 @@
 -- The load and the end of a table whose lots each start at their est.
-use Rattle.std.proofs.Common.{◌≡◌, ℕ, ◌<◌, ◌≤◌, max, List, [], ◌∷◌, map, refl, inl, inr, arith}
+use Rattle.std.proofs.Common.{◌≡◌, ℕ, ◌<◌, ◌≤◌, min, max, false, List, [], ◌∷◌, map, refl, inl, inr, arith}
 use Rattle.std.proofs.lemmas.Bool.{cases_lt}
+use Rattle.std.proofs.lemmas.Bool.Decides.{nat_tests}
 use Rattle.std.specs.List.{AllByRecursion, fold, reduce}
 use Rattle.std.specs.Prelude.{unwrap_or}
 use Rattle.lots.specs.Limits.{horizon}
-use Rattle.lots.specs.Schedules.{load, end}
+use Rattle.lots.specs.Schedules.{spans, load, end}
 use Rattle.lots.specs.Tables.{ect, LawfulLot}
 use Rattle.lots.specs.declared.Lot.{Lot}
 use Rattle.tree.specs.Tree.{starts}
@@ -17,6 +18,20 @@ end_from m (x ∷ xs) = omega (arith, end_from (max m (ect x)) xs)
 pub end_is : (T : List Lot) → unwrap_or (reduce max (map ect T)) 0 ≡ end T (starts T)
 end_is [] = refl
 end_is (x ∷ xs) = end_from (ect x) xs
+
+start_from : (m : ℕ) (T : List Lot) → (fold min m (map (λ x. x.est) T) ≤ m) × AllByRecursion (λ x. fold min m (map (λ y. y.est) T) ≤ x.est) T
+start_from m [] = (omega arith, tt)
+start_from m (x ∷ xs) = let h = start_from (min m x.est) xs in (omega (arith, h.0), (omega (arith, h.0), h.1))
+
+-- no lot goes in before the least est
+pub start_least : (T : List Lot) → AllByRecursion (λ x. unwrap_or (reduce min (map (λ y. y.est) T)) 0 ≤ x.est) T
+start_least [] = tt
+start_least (x ∷ xs) = start_from x.est xs
+
+-- nothing runs before the first lot goes in
+pub load_before : (t s : ℕ) (T : List Lot) → AllByRecursion (λ x. s ≤ x.est) T → t < s → load t T (starts T) ≡ 0
+load_before t s [] first h = refl
+load_before t s (x ∷ xs) first h = let none : spans x.est (ect x) t ≡ false = grind (arith, nat_tests, first.0) in rw none (omega (arith, load_before t s xs first.1 h))
 
 -- every lot is out by the end of the week
 pub end_in_week : (C : ℕ) (T : List Lot) → AllByRecursion (LawfulLot C) T → end T (starts T) ≤ horizon

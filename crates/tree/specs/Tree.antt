@@ -26,7 +26,7 @@ EndsBy (known ss e) k = e ≤ k
 abbrev pub out_by : ℕ → Lot → Lot
 out_by d x = record { est = x.est; lct = min x.lct d; p = x.p; c = x.c }
 
--- the lots of a node, once only an end before that of the best known is of use
+-- the lots of a node, each out before the end of the best known
 abbrev pub under : BestKnown → List Lot → List Lot
 under unknown T = T
 under (known ss e) T = map (out_by (e - 1)) T
@@ -40,7 +40,7 @@ abbrev pub ComesTo : Meaning → ℕ → List Lot → Outcome → Type 0
 ComesTo m C T dead = (n : ℕ) × (W : List Lot) × Moves m C T n W × (m C W ≡ dead)
 ComesTo m C T (to U) = (n : ℕ) × Moves m C T n U × (m C U ≡ to U)
 
--- what is left of the node T, where b is the best known: nothing where a lot does not fit before its end
+-- what is left of the node T, where b is the best known: nothing where a lot does not fit before the end of that
 pub data Leaves (m : Meaning) (C : ℕ) (b : BestKnown) (T : List Lot) : Outcome → Type 0 where
   late : (Fits (under b T) → ⊥) → Leaves m C b T dead
   tight : {o : Outcome} → Fits (under b T) → ComesTo m C (under b T) o → Leaves m C b T o

@@ -1,5 +1,6 @@
 // The load of a table whose lots each start at their est.
-ghost use Rattle.std.specs.Prelude.{◌≡◌};
+ghost use Rattle.std.specs.Prelude.{◌≡◌, ◌≤◌};
+ghost use Rattle.std.specs.List.{AllByRecursion};
 ghost use Rattle.lots.specs.Schedules.{spans, end as end_of};
 ghost use Rattle.lots.specs.Tables.{ect as earliest_end};
 ghost use Rattle.tree.specs.Held.{LoadWithin};
@@ -14,6 +15,13 @@ pub(crate) fn last_end(lots: &[Lot]) -> u32
     lots.iter().map(|lot| lot.ect()).max().unwrap_or(0)
 }
 
+// The minute at which the first lot goes in, and 0 without lots.
+fn first_start(lots: &[Lot]) -> u32
+    ensures { AllByRecursion (λ x. result ≤ x.est) lots.now }
+{
+    lots.iter().map(|lot| u32::from(lot.est)).min().unwrap_or(0)
+}
+
 fn runs_at(lot: &Lot, minute: u32) -> bool
     ensures { result ≡ spans lot.now.est (earliest_end lot.now) minute }
 {
@@ -24,9 +32,9 @@ fn runs_at(lot: &Lot, minute: u32) -> bool
 pub(crate) fn is_within(table: Table<'_>) -> bool
     ensures { LoadWithin table.entry.capacity table.entry.lots.now result }
 {
-    // Both loops are left at the first overfull minute, which is a rule of the project: hence the label, and no `all`.
+    // Both loops are left at the first overfull minute: hence the label.
     'load: {
-        for minute in 0..last_end(table.lots) {
+        for minute in first_start(table.lots)..last_end(table.lots) {
             let mut load = 0;
             for lot in table.lots {
                 if runs_at(lot, minute) {

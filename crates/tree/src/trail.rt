@@ -7,7 +7,7 @@ use arrayvec::ArrayVec;
 use lots::{Lot, MAX_LOTS};
 
 // Tables of `table_len` lots each, one after another from the first cell on, and never more than fit in the cells that a
-// search asks for. That cells are lent is a rule of the project.
+// search asks for. The cells are lent, since nothing here allocates.
 #[derive(Drop)]
 pub(crate) struct Trail<'a> {
     cells: &'a mut [Lot],

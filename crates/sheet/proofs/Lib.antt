@@ -1,0 +1,12 @@
+pub mod Desks
+pub mod Finding
+pub mod Lengths
+pub mod Letters
+pub mod Lines
+pub mod Numerals
+pub mod Once
+pub mod Pages
+pub mod Prints
+pub mod Reading
+pub mod Some
+pub mod Steps

@@ -1,0 +1,13 @@
+use Rattle.std.proofs.Common.{◌≡◌}
+use Rattle.sheet.specs.Pages.{Adds, HasRoom, bytes_of}
+use Rattle.sheet.specs.Prints.{window_lines}
+use Rattle.sheet.specs.declared.page.Page.{Page}
+use Rattle.sheet.proofs.print.print_windows.Given as goal
+
+-- Whatever prints the lines left prints all of them.
+abbrev pub invariant-loop-name : goal.invariant-loop-name
+invariant-loop-name l = record {
+  same_buffer : l.page.buffer.ghost_name ≡ l.fn.page.buffer.ghost_name;
+  room : HasRoom l.page (window_lines (bytes_of l.name-iterator.a.rest.now) l.name-iterator.b.rest.now);
+  adds : (q : Page) → Adds l.page (window_lines (bytes_of l.name-iterator.a.rest.now) l.name-iterator.b.rest.now) q → Adds l.fn.page (window_lines (bytes_of l.names) l.lots) q;
+}

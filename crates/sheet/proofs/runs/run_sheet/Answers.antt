@@ -1,0 +1,5 @@
+use Rattle.sheet.proofs.Steps.{long_room}
+use Rattle.sheet.proofs.runs.run_sheet.Goals as goal
+
+pub print_refusal-requires : goal.print_refusal-requires
+print_refusal-requires g c = long_room c.args.page.now c.requires

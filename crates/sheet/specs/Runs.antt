@@ -1,0 +1,123 @@
+-- The run of a sheet: its lines in order, and what they print.
+use Rattle.std.specs.Prelude.{◌≡◌, ℕ, suc, ◌+◌, ◌-◌, ◌*◌, ◌<◌, ◌≤◌, ◌⊎◌, List, [], ◌∷◌, ◌++◌, length, drop, Ok, Err, Result}
+use Rattle.lots.specs.Checks.{Check, Checked}
+use Rattle.lots.specs.Limits.{max_lots, max_sheet, min_print}
+use Rattle.lots.specs.declared.Lot.{Lot}
+use Rattle.lots.specs.declared.Refusal.{Refusal}
+use Rattle.lots.specs.declared.Refusal.TheVariants as refusal
+use Rattle.rule.specs.Meanings.{Meaning, Sound}
+use Rattle.rule.specs.declared.Verdict.{Verdict}
+use Rattle.tree.specs.Answer.{Solved}
+use Rattle.tree.specs.declared.Search.{Search}
+use Rattle.plan.specs.Calls.{Opened, Admitted, Narrowed, Tightened}
+use Rattle.plan.specs.Tables.{Table, empty}
+use Rattle.sheet.specs.Lines.{Line, machine, name, lot, narrow, tighten, solve, written, Bounded, newline}
+use Rattle.sheet.specs.Prints.{narrow_print, tighten_print, solve_print, refusal_print}
+
+-- the most commands of a sheet
+abbrev pub max_commands : ℕ
+max_commands = 8
+
+-- what a run knows when the line with the number `line` is due: how many lots the first line has said, the names so far, and the plan
+pub record Desk : Type 0 where
+  pub line : ℕ
+  pub lots : ℕ
+  pub names : List (List ℕ)
+  pub plan : Table
+
+abbrev pub new_desk : Desk
+new_desk = record { line = 1; lots = 0; names = []; plan = empty 1 }
+
+-- the lines before the first command: the machine, a name for each lot, and the lots
+abbrev pub head : ℕ → ℕ
+head lots = 1 + 2 * lots
+
+-- the line is of the form that is due
+abbrev pub Due : Desk → Line → Type 0
+Due D (machine C n) = D.line ≡ 1
+Due D (name w) = (1 < D.line) × (D.line ≤ 1 + D.lots)
+Due D (lot i x) = (1 + D.lots < D.line) × (D.line ≤ head D.lots) × (i ≡ D.line - (2 + D.lots))
+Due D (narrow i from to) = head D.lots < D.line
+Due D tighten = head D.lots < D.line
+Due D (solve budget) = head D.lots < D.line
+
+-- the bytes begin with a line that is due, and `rest` comes after it
+abbrev pub Begins : Desk → List ℕ → Line → List ℕ → Type 0
+Begins D bs l rest = (bs ≡ written l ++ newline ∷ rest) × Bounded l × Due D l
+
+-- the sheet may end here: every lot is in
+abbrev pub MayEnd : Desk → Type 0
+MayEnd D = head D.lots < D.line
+
+-- all commands that a sheet may have were run
+abbrev pub Full : Desk → Type 0
+Full D = head D.lots + max_commands < D.line
+
+-- the cells of a trail that serves every table
+abbrev pub max_trail : ℕ
+max_trail = max_lots * max_lots + max_lots
+
+-- a search of the plan under the budget B, with a trail and a place for starts that serve every table; us is what the place holds after
+abbrev pub Searched : Meaning → Table → ℕ → List ℕ → Result Search Refusal → Type 0
+Searched m P B us r =
+    (cs ds : List Lot) × (ss : List ℕ) × (length cs ≡ max_trail) × (length ss ≡ max_lots) × Solved m P.capacity P.lots B cs ds ss us r
+
+-- the line is run at the desk D: it leaves the plan Q and prints out
+abbrev pub Runs : Meaning → Desk → Line → Table → List ℕ → Type 0
+Runs m D (machine C n) Q out = Opened C D.plan Q (Ok tt) × (out ≡ [])
+Runs m D (name w) Q out = (Q ≡ D.plan) × (out ≡ [])
+Runs m D (lot i x) Q out = (k : ℕ) × Admitted x D.plan Q (Ok k) × (out ≡ [])
+Runs m D (narrow i from to) Q out = Narrowed i from to D.plan Q (Ok tt) × (out ≡ narrow_print)
+Runs m D tighten Q out = (v : Verdict) × (k : ℕ) × Tightened m D.plan Q v k × (out ≡ tighten_print v k D.names Q.lots)
+Runs m D (solve B) Q out = (Q ≡ D.plan) × (us : List ℕ) × (a : Search) × Searched m D.plan B us (Ok a) × (out ≡ solve_print a D.names us)
+
+-- its call is refused with e
+abbrev pub Refuses : Meaning → Desk → Line → Refusal → Type 0
+Refuses m D (machine C n) e = Opened C D.plan D.plan (Err e)
+Refuses m D (name w) e = ⊥
+Refuses m D (lot i x) e = Admitted x D.plan D.plan (Err e)
+Refuses m D (narrow i from to) e = Narrowed i from to D.plan D.plan (Err e)
+Refuses m D tighten e = ⊥
+Refuses m D (solve B) e = (us : List ℕ) × Searched m D.plan B us (Err e)
+
+-- what is known after the line, which has left the plan Q
+abbrev pub after : Desk → Line → Table → Desk
+after D (machine C n) Q = record { line = suc D.line; lots = n; names = []; plan = Q }
+after D (name w) Q = record { line = suc D.line; lots = D.lots; names = D.names ++ w ∷ []; plan = Q }
+after D (lot i x) Q = record { line = suc D.line; lots = D.lots; names = D.names; plan = Q }
+after D (narrow i from to) Q = record { line = suc D.line; lots = D.lots; names = D.names; plan = Q }
+after D tighten Q = record { line = suc D.line; lots = D.lots; names = D.names; plan = Q }
+after D (solve B) Q = record { line = suc D.line; lots = D.lots; names = D.names; plan = Q }
+
+-- the lines bs, from the one that is due at the desk D on, print out
+pub data Prints (m : Meaning) : Desk → List ℕ → List ℕ → Type 0 where
+  ends : {D : Desk} → MayEnd D → Prints m D [] []
+  runs : {D : Desk} {bs rest : List ℕ} (l : Line) (Q : Table) (out more : List ℕ) → Begins D bs l rest → (Full D → ⊥) → Runs m D l Q out → Prints m (after D l Q) rest more → Prints m D bs (out ++ more)
+  refused : {D : Desk} {bs : List ℕ} (l : Line) (rest : List ℕ) (e : Refusal) → Begins D bs l rest → (Full D → ⊥) → Refuses m D l e → Prints m D bs (refusal_print e D.line)
+  ninth : {D : Desk} {bs : List ℕ} (l : Line) (rest : List ℕ) → Begins D bs l rest → Full D → Prints m D bs (refusal_print refusal.Commands D.line)
+  formless : {D : Desk} {bs : List ℕ} → ((bs ≡ []) → MayEnd D → ⊥) → ((l : Line) (rest : List ℕ) → Begins D bs l rest → ⊥) → Prints m D bs (refusal_print refusal.Line D.line)
+
+-- the print of a sheet
+abbrev pub PrintOf : Meaning → List ℕ → List ℕ → Type 0
+PrintOf m sheet out =
+    ((max_sheet < length sheet) × (out ≡ refusal_print refusal.SheetLength 0))
+    ⊎ ((length sheet ≤ max_sheet) × Prints m new_desk sheet out)
+
+-- each sheet has exactly one print, and it fits the buffer
+pub record OnePrint (m : Meaning) (sheet : List ℕ) : Type 0 where
+  pub some : (out : List ℕ) × PrintOf m sheet out
+  pub one : (out more : List ℕ) → PrintOf m sheet out → PrintOf m sheet more → out ≡ more
+  pub fits : (out : List ℕ) → PrintOf m sheet out → length out ≤ min_print
+
+-- so with every rule that is sound
+abbrev pub EverySheet : Type 0
+EverySheet = (m : Meaning) → Sound m → (sheet : List ℕ) → OnePrint m sheet
+
+-- for a buffer of so many bytes
+abbrev pub print_checks : ℕ → List Check
+print_checks bytes = record { refusal = refusal.PrintBuffer; applies = bytes < min_print } ∷ []
+
+-- what the sheet call answers, where the buffer holds `before` before it and `holds` after it
+abbrev pub Printed : Meaning → List ℕ → List ℕ → List ℕ → Result ℕ Refusal → Type 0
+Printed m sheet before holds r =
+    Checked (print_checks (length before)) (holds ≡ before) (λ n. (out : List ℕ) × PrintOf m sheet out × (n ≡ length out) × (holds ≡ out ++ drop n before)) r

@@ -1,0 +1,17 @@
+// The sheet of a shift: its lines are run in order as they are read, and what they answer is printed.
+#![tactic(auto)]
+
+mod desk;
+mod line;
+mod page;
+mod print;
+mod promise;
+mod reader;
+mod runs;
+mod token;
+
+pub use promise::each_sheet_has_one_print;
+pub use runs::run;
+
+#[cfg(test)]
+mod tests;

@@ -1,0 +1,76 @@
+// A sheet is run line by line, and what its commands answer is printed.
+ghost use Rattle.std.specs.Prelude.{◌≡◌, ℕ, ◌≤◌, List, [], length, IfOk};
+ghost use Rattle.sheet.specs.Desks.{Orderly, InTime, RoomFor};
+ghost use Rattle.sheet.specs.Pages.{Adds};
+ghost use Rattle.sheet.specs.Runs.{new_desk, MayEnd, Prints, PrintOf, Printed};
+ghost use Rattle.sheet.specs.Steps.{Took};
+
+use crate::desk::Desk;
+use crate::page::Page;
+use crate::print::print_refusal;
+use crate::reader::Reader;
+use lots::{MAX_SHEET, MIN_PRINT, Refusal};
+use rule::Rule;
+
+// Runs the lines of the sheet in order, and answers the length of its print. The rule is what tightens and searches its plan.
+pub fn run<R: Rule>(rule: &R, sheet: &[u8], print: &mut [u8]) -> Result<usize, Refusal>
+    ensures exact { Printed (R.meaning rule.now) sheet.now print.old print.new result }
+    ensures fits { IfOk result (λ n. n ≤ length print.old) }
+{
+    if print.len() < MIN_PRINT {
+        return Err(Refusal::PrintBuffer);
+    }
+    let mut page = Page::over(print);
+    run_sheet(rule, sheet, &mut page);
+    Ok(page.len())
+}
+
+fn run_sheet<R: Rule>(rule: &R, sheet: &[u8], page: &mut Page<'_>)
+    requires { RoomFor new_desk page.old }
+    ensures same_buffer { page.new.buffer.ghost_name ≡ page.old.buffer.ghost_name }
+    ensures adds { (out : List ℕ) × PrintOf (R.meaning rule.now) sheet.now out × Adds page.old out page.new }
+{
+    if sheet.len() > MAX_SHEET {
+        return print_refusal(page, Refusal::SheetLength, 0);
+    }
+    run_lines(rule, sheet, page);
+}
+
+// Runs line after line, until the sheet ends or one is refused.
+fn run_lines<R: Rule>(rule: &R, sheet: &[u8], page: &mut Page<'_>)
+    requires { RoomFor new_desk page.old }
+    ensures same_buffer { page.new.buffer.ghost_name ≡ page.old.buffer.ghost_name }
+    ensures adds { (out : List ℕ) × Prints (R.meaning rule.now) new_desk sheet.now out × Adds page.old out page.new }
+{
+    let mut desk = Desk::new();
+    let mut reader = Reader::new(sheet);
+    while !(reader.is_at_end() && desk.may_end()) {
+        if let Err(refusal) = run_line(rule, &mut desk, &mut reader, page) {
+            print_refusal(page, refusal, desk.line());
+            return;
+        }
+    }
+}
+
+// Runs the next line of a sheet that may not end before it.
+fn run_line<'a, R: Rule>(
+    rule: &R,
+    desk: &mut Desk<'a>,
+    reader: &mut Reader<'a>,
+    page: &mut Page<'_>,
+) -> Result<(), Refusal>
+    requires goes_on { reader.old ≡ [] → MayEnd desk.old → ⊥ }
+    requires orderly { Orderly desk.old }
+    requires room { RoomFor desk.old page.old }
+    ensures same_buffer { page.new.buffer.ghost_name ≡ page.old.buffer.ghost_name }
+    ensures took { Took (R.meaning rule.now) desk.old reader.old desk.new reader.new page.old page.new result }
+{
+    let line = match reader.line() {
+        Some(line) if desk.is_due(&line) => line,
+        _ => return Err(Refusal::Line),
+    };
+    if desk.is_full() {
+        return Err(Refusal::Commands);
+    }
+    desk.run(rule, line, page)
+}

@@ -1,0 +1,138 @@
+// The words of a sheet.
+ghost use Rattle.std.specs.Prelude.{◌≡◌, ℕ, ◌+◌, ◌^◌, ◌<◌, ◌≤◌, ◌≢◌, List, length, drop, slice_index, slice_index_or, MatchOption, ◌↔◌, IsTrue, decimal};
+ghost use Rattle.std.specs.Char.{IsAsciiDigit};
+ghost use Rattle.sheet.specs.Lines.{Printed, Reads, space, max_budget};
+ghost use Rattle.sheet.specs.Words.{Run, CommandAt, NumberAt, NameAt, end_of, Letter, Numeral, Called, BeginsNumeral};
+
+use std::str::from_utf8;
+
+// The most bytes of a name, and the bytes that one may have.
+const MAX_NAME: usize = 24;
+
+const FIRST_PRINTED: u8 = 32;
+
+const LAST_PRINTED: u8 = 126;
+
+// A part of the sheet, and its place there.
+#[derive(Clone, Copy)]
+pub(crate) enum Token<'a> {
+    Name(&'a [u8], usize),
+    Number(&'a [u8], usize),
+    Command(char, usize),
+}
+
+impl<'a> Token<'a> {
+    // The command at a place.
+    pub fn command(sheet: &'a [u8], at: usize) -> Option<Token<'a>>
+        ensures { MatchOption result (length sheet.now ≤ at) (CommandAt sheet.now at) }
+    {
+        sheet
+            .get(at)
+            .map(|letter| Token::Command(*letter as char, at))
+    }
+
+    // The number word after the space at a place: as many digits as stand there.
+    pub fn number(sheet: &'a [u8], at: usize) -> Option<Token<'a>>
+        ensures { MatchOption result (slice_index_or sheet.now at 0 ≢ space) (NumberAt sheet.now at) }
+    {
+        let rest = after_space(sheet, at)?;
+        Some(Token::Number(&rest[..digits(rest)], at + 1))
+    }
+
+    // The name after the space at a place: as many printed bytes as stand there.
+    pub fn name(sheet: &'a [u8], at: usize) -> Option<Token<'a>>
+        ensures { MatchOption result (slice_index_or sheet.now at 0 ≢ space) (NameAt sheet.now at) }
+    {
+        let rest = after_space(sheet, at)?;
+        Some(Token::Name(&rest[..printed(rest)], at + 1))
+    }
+
+    // The place after it.
+    pub fn end(&self) -> usize
+        requires { end_of self.now < 2 ^ 64 }
+        ensures { result ≡ end_of self.now }
+    {
+        match self {
+            Token::Name(bytes, at) | Token::Number(bytes, at) => *at + bytes.len(),
+            Token::Command(_, at) => *at + 1,
+        }
+    }
+
+    // The letter of a command.
+    pub fn letter(&self) -> Option<char>
+        ensures { Reads (Letter self.now) result }
+    {
+        match self {
+            Token::Command(letter, _) => Some(*letter),
+            _ => None,
+        }
+    }
+
+    // The number that a number word writes in decimal without leading zeros, where it fits.
+    pub fn value(&self) -> Option<u32>
+        ensures { Reads (Numeral self.now) result }
+    {
+        match self {
+            Token::Number(digits, _) => numeral(digits),
+            _ => None,
+        }
+    }
+
+    // The bytes of a name, where they are neither too few nor too many.
+    pub fn called(&self) -> Option<&'a [u8]>
+        ensures { Reads (Called self.now) result }
+    {
+        match self {
+            Token::Name(name, _) if (1..=MAX_NAME).contains(&name.len()) => Some(*name),
+            _ => None,
+        }
+    }
+}
+
+// What follows the space at a place.
+fn after_space(sheet: &[u8], at: usize) -> Option<&[u8]>
+    ensures { MatchOption result (slice_index_or sheet.now at 0 ≢ space) (λ rest. (at < length sheet.now) × (slice_index sheet.now at ≡ space) × (rest.now ≡ drop (at + 1) sheet.now)) }
+{
+    match sheet.get(at) {
+        Some(b' ') => Some(&sheet[at + 1..]),
+        _ => None,
+    }
+}
+
+// The number that the bytes write in decimal without leading zeros, where it fits.
+fn numeral(bytes: &[u8]) -> Option<u32>
+    ensures { Reads (λ n. (bytes.now ≡ decimal n) × (n ≤ max_budget)) result }
+{
+    // `parse` would take a plus sign and leading zeros.
+    if !begins_numeral(bytes) {
+        return None;
+    }
+    from_utf8(bytes).ok()?.parse().ok()
+}
+
+// The bytes are the digit 0 alone, or begin with another digit.
+fn begins_numeral(bytes: &[u8]) -> bool
+    ensures { IsTrue result ↔ BeginsNumeral bytes.now }
+{
+    matches!(bytes, [b'0'] | [b'1'..=b'9', ..])
+}
+
+// How many digits the bytes begin with.
+fn digits(bytes: &[u8]) -> usize
+    ensures { Run IsAsciiDigit bytes.now result }
+{
+    bytes
+        .iter()
+        .position(|byte| !byte.is_ascii_digit())
+        .unwrap_or(bytes.len())
+}
+
+// How many printed bytes the bytes begin with.
+fn printed(bytes: &[u8]) -> usize
+    ensures { Run Printed bytes.now result }
+{
+    bytes
+        .iter()
+        .position(|byte| !(FIRST_PRINTED..=LAST_PRINTED).contains(byte))
+        .unwrap_or(bytes.len())
+}

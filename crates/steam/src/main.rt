@@ -1,0 +1,23 @@
+// Reads a sheet from standard input, runs it with the house pile, and writes its print to standard output.
+#![tactic(auto)]
+
+use anyhow::anyhow;
+use lots::{MAX_SHEET, MIN_PRINT};
+use rules::house_pile;
+use std::io::{Read, Write};
+
+fn main(rt: HostRuntime) -> anyhow::Result<()> {
+    let heap = rt.alloc();
+    let mut sheet = vec![in heap]?;
+    // One byte more than a sheet may have shows that it is too long.
+    rt.stdin()
+        .take(MAX_SHEET as u64 + 1)
+        .read_to_end(&mut sheet)?;
+    let mut print = vec![in heap; 0; MIN_PRINT]?;
+    let len = sheet::run(&house_pile(), sheet.as_slice(), print.as_mut_slice()).map_err(|_| anyhow!(
+        "the buffer for the print is too short"
+    ))?;
+    print.truncate(len);
+    rt.stdout().write_all(print.as_slice())?;
+    Ok(())
+}
