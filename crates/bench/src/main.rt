@@ -17,8 +17,8 @@ mod tables;
 
 const CAPACITY: u16 = 24;
 
-// Few trays, so that a search finds no schedule at its first leaves.
-const SEARCH_CAPACITY: u16 = 5;
+// A search has this many trays, and one more for each four lots: so few that it is not over at its first leaf.
+const SEARCH_CAPACITY: u16 = 1;
 
 const APPLICATIONS: u32 = 200;
 
@@ -121,7 +121,7 @@ fn measure_search<R: Rule>(rt: &HostRuntime, rule: &R) -> anyhow::Result<()> {
     let mut trail = [Lot::default(); TRAIL];
     let mut starts = [0; MAX_LOTS];
     for count in [8, 16, 32, 64] {
-        let plan = plan_of(SEARCH_CAPACITY, &lots[..count])?;
+        let plan = plan_of(SEARCH_CAPACITY + count as u16 / 4, &lots[..count])?;
         let start = Instant::now(rt)?;
         let found = plan
             .solve(rule, BUDGET, &mut trail, &mut starts)

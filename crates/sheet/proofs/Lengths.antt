@@ -24,11 +24,8 @@ use Rattle.sheet.specs.Desks.{Orderly, InTime, window_line, most_of_command, mos
 use Rattle.sheet.specs.Lines.{Line, machine, name, lot, narrow, tighten, solve, numbers, newline, max_name, max_budget, Bounded}
 use Rattle.sheet.specs.Prints.{ended, window_lines, windows_unless_dead, tighten_print, start_lines, solve_print, refusal_print}
 use Rattle.sheet.specs.Runs.{Desk, new_desk, head, max_commands, Due, Full, Runs, after, Prints, ends, runs, refused, ninth, formless, PrintOf}
-use Rattle.sheet.proofs.Lines.{length_budget, length_million, length_numbers}
+use Rattle.sheet.proofs.Lines.{length_number, length_budget, length_million, length_numbers}
 use Rattle.sheet.proofs.Desks.{new_orderly, after_orderly, tightened_kept}
-
-pub length_minute : (t : ℕ) → t ≤ horizon → length (decimal t) ≤ 5
-length_minute t h = length-decimal-le 5 t (omega arith) (omega arith) (omega arith)
 
 length_two : (a b : ℕ) → length (numbers (a ∷ b ∷ [])) ≡ 2 + length (decimal a) + length (decimal b)
 length_two a b = omega (arith, length_numbers a (b ∷ []), length_numbers b [])
@@ -51,14 +48,14 @@ windows_short C (w ∷ ws) (x ∷ xs) short ok =
     let line = ended (codes "W" ++ (numbers (x.est ∷ x.lct ∷ []) ++ (codes " " ++ w))) in
     let time = ok.0.has_time in
     let week = ok.0.in_week in
-    omega (arith, length-append line (window_lines ws xs), length_named (codes "W") (x.est ∷ x.lct ∷ []) w, length_two x.est x.lct, length_minute x.est (omega arith), length_minute x.lct week, short.0, windows_short C ws xs short.1 ok.1)
+    omega (arith, length-append line (window_lines ws xs), length_named (codes "W") (x.est ∷ x.lct ∷ []) w, length_two x.est x.lct, length_number x.est (omega arith), length_number x.lct (omega (arith, week)), short.0, windows_short C ws xs short.1 ok.1)
 
 starts_short : (names : List (List ℕ)) (ss : List ℕ) → AllByRecursion (λ w. length w ≤ max_name) names → AllByRecursion (λ s. s ≤ horizon) ss → length (start_lines names ss) ≤ start_line * length ss
 starts_short names [] short week = omega arith
 starts_short [] (s ∷ ss) short week = omega arith
 starts_short (w ∷ ws) (s ∷ ss) short week =
     let line = ended (codes "A" ++ (numbers (s ∷ []) ++ (codes " " ++ w))) in
-    omega (arith, length-append line (start_lines ws ss), length_named (codes "A") (s ∷ []) w, length_numbers s [], length_minute s week.0, short.0, starts_short ws ss short.1 week.1)
+    omega (arith, length-append line (start_lines ws ss), length_named (codes "A") (s ∷ []) w, length_numbers s [], length_number s (omega (arith, week.0)), short.0, starts_short ws ss short.1 week.1)
 
 verdict_short : (v : Verdict) → length (shown_verdict v) ≤ 5
 verdict_short Still = omega arith
@@ -80,7 +77,7 @@ solve_short n B us (Best e k) names few count within short week =
     let first = codes "S best" ++ numbers (e ∷ k ∷ []) in
     let ss = take (length names) us in
     let early : AllByRecursion (λ s. s ≤ horizon) ss = subst (λ i. AllByRecursion (λ s. s ≤ horizon) (take i us)) (sym count) week.2 in
-    omega (arith, length-append (ended first) (start_lines names ss), length_ended first, length_two e k, length_minute e week.0, length_budget k (omega (arith, week.1)), starts_short names ss short early, length-take (length names) us)
+    omega (arith, length-append (ended first) (start_lines names ss), length_ended first, length_two e k, length_number e (omega (arith, week.0)), length_budget k (omega (arith, week.1)), starts_short names ss short early, length-take (length names) us)
 solve_short n B us (None k) names few count within short week =
     omega (arith, length_ended (codes "S none" ++ numbers (k ∷ [])), length_numbers k [], length_budget k (omega (arith, week)))
 solve_short n B us (Spent k) names few count within short week =

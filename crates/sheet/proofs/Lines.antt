@@ -4,9 +4,10 @@ use Rattle.std.specs.Char.{IsAsciiDigit}
 use Rattle.std.specs.Fmt.{decimal}
 use Rattle.std.specs.List.{AllByRecursion}
 use Rattle.std.proofs.lemmas.Fmt.{digits_decimal, decimal_injective, length-decimal-le}
-use Rattle.sheet.proofs.Numerals.{digits}
 use Rattle.lots.specs.declared.Lot.{Lot}
+use Rattle.rule.specs.Laws.Tables.{lot_path}
 use Rattle.sheet.specs.Lines.{newline, max_number, max_budget, numbers, Line, machine, name, lot, narrow, tighten, solve, written, Bounded, Printed, Stops, Follows}
+use Rattle.sheet.proofs.Numerals.{digits}
 
 -- runs
 
@@ -48,9 +49,6 @@ numbers_one (n ∷ ns) (k ∷ ks) rest more count small low stops ends same =
 
 -- lines
 
-pub lot_one : (x y : Lot) → x.est ≡ y.est → x.lct ≡ y.lct → x.p ≡ y.p → x.c ≡ y.c → x ≡ y
-lot_one x y est lct p c = λ t. record { est = est t; lct = lct t; p = p t; c = c t }
-
 pub first_one : (l k : Line) (rest more : List ℕ) → Bounded l → Bounded k → Follows l rest → Follows k more → written l ++ rest ≡ written k ++ more → (l ≡ k) × (rest ≡ more)
 first_one (machine C n) (machine D m) rest more within low stops ends same =
     let one = numbers_one (C ∷ n ∷ []) (D ∷ m ∷ []) rest more refl (search rules) (search rules) stops ends (ap (drop 1) same) in
@@ -60,7 +58,7 @@ first_one (name w) (name v) rest more within low stops ends same =
     (ap name one.0, one.1)
 first_one (lot i x) (lot j y) rest more within low stops ends same =
     let one = numbers_one (i ∷ x.est ∷ x.lct ∷ x.p ∷ x.c ∷ []) (j ∷ y.est ∷ y.lct ∷ y.p ∷ y.c ∷ []) rest more refl (search rules) (search rules) stops ends (ap (drop 1) same) in
-    let lots : x ≡ y = lot_one x y (cc one.0) (cc one.0) (cc one.0) (cc one.0) in
+    let lots : x ≡ y = lot_path x y (cc one.0) (cc one.0) (cc one.0) (cc one.0) in
     let number : i ≡ j = cc one.0 in
     (cc, one.1)
 first_one (narrow i from to) (narrow j since till) rest more within low stops ends same =

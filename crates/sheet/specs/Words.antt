@@ -1,11 +1,11 @@
 -- The words of a sheet, and where they stand in it.
 use Rattle.std.specs.Prelude.{◌≡◌, ℕ, ◌+◌, ◌<◌, ◌≤◌, ◌⊎◌, List, [], ◌∷◌, length, take, drop, slice_index, decimal}
+use Rattle.std.specs.Borrow.{Bor}
 use Rattle.std.specs.Char.{IsAsciiDigit}
 use Rattle.std.specs.Int.{IsInRange}
 use Rattle.sheet.specs.Lines.{Printed, max_budget, max_name, space}
 use Rattle.sheet.specs.declared.token.Token.{Token}
 use Rattle.sheet.specs.declared.token.Token.TheVariants.{Name, Number, Command}
-use Rattle.std.specs.Borrow.{Bor}
 
 -- the bytes begin with n bytes of the kind P and no more
 pub record Run (P : ℕ → Type 0) (bs : List ℕ) (n : ℕ) : Type 0 where

@@ -6,10 +6,10 @@ ghost use Rattle.sheet.specs.Desks.{HasLine};
 ghost use Rattle.sheet.specs.Lines.{machine, name as named, lot as lot_line, narrow as narrow_line, tighten as tighten_line, solve as solve_line};
 ghost use Rattle.sheet.specs.Pages.{HasRoom};
 ghost use Rattle.sheet.specs.Prints.{narrow_print};
-ghost use Rattle.sheet.specs.declared.page.Page.{Page};
 ghost use Rattle.sheet.specs.Runs.{new_desk, head, Due, MayEnd, Full};
 ghost use Rattle.sheet.specs.Said.{said};
 ghost use Rattle.sheet.specs.Steps.{Ready, Ran};
+ghost use Rattle.sheet.specs.declared.page.Page.{Page};
 
 use crate::line::Line;
 use crate::page::Page;
