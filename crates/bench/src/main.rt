@@ -11,14 +11,17 @@ use rules::{NotFirst, Overload, TimeTable, house_pile};
 use std::env;
 use std::time::Instant;
 use tables::{Windows, table};
-use tree::Search;
+use tree::{MAX_TRAIL, Search};
 
 mod tables;
 
 const CAPACITY: u16 = 24;
 
-// A search has this many trays, and one more for each four lots: so few that it is not over at its first leaf.
-const SEARCH_CAPACITY: u16 = 1;
+// How many lots are measured at a time.
+const COUNTS: [usize; 4] = [8, 16, 32, MAX_LOTS];
+
+// A search has one tray, and one more for each so many lots: so few that it is not over at its first leaf.
+const LOTS_FOR_A_TRAY: u16 = 4;
 
 const APPLICATIONS: u32 = 200;
 
@@ -26,9 +29,6 @@ const APPLICATIONS: u32 = 200;
 const BUDGET: u32 = 2_000;
 
 const NANOS_PER_SECOND: u128 = 1_000_000_000;
-
-// The cells of a trail that serves every table.
-const TRAIL: usize = MAX_LOTS * MAX_LOTS + MAX_LOTS;
 
 // The names, in the order in which they are printed.
 const BENCHMARKS: [&str; 8] = [
@@ -107,7 +107,7 @@ fn nanos(rt: &HostRuntime, call: &dyn Call, lots: &[Lot]) -> anyhow::Result<u128
 fn measure(rt: &HostRuntime, call: &dyn Call) -> anyhow::Result<()> {
     let short_table = table(Windows::Short);
     let week_table = table(Windows::Week);
-    for count in [8, 16, 32, 64] {
+    for count in COUNTS {
         let short = nanos(rt, call, &short_table[..count])?;
         let week = nanos(rt, call, &week_table[..count])?;
         println!(rt; "{count} lots: {short} ns short, {week} ns week")?;
@@ -118,10 +118,10 @@ fn measure(rt: &HostRuntime, call: &dyn Call) -> anyhow::Result<()> {
 // One line for each number of lots: how many nodes a search visits in a second.
 fn measure_search<R: Rule>(rt: &HostRuntime, rule: &R) -> anyhow::Result<()> {
     let lots = table(Windows::Short);
-    let mut trail = [Lot::default(); TRAIL];
+    let mut trail = [Lot::default(); MAX_TRAIL];
     let mut starts = [0; MAX_LOTS];
-    for count in [8, 16, 32, 64] {
-        let plan = plan_of(SEARCH_CAPACITY + count as u16 / 4, &lots[..count])?;
+    for count in COUNTS {
+        let plan = plan_of(1 + count as u16 / LOTS_FOR_A_TRAY, &lots[..count])?;
         let start = Instant::now(rt)?;
         let found = plan
             .solve(rule, BUDGET, &mut trail, &mut starts)

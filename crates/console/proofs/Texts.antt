@@ -6,11 +6,12 @@ use Rattle.std.proofs.lemmas.Fmt.{IsAscii-from_digits}
 use Rattle.std.proofs.lemmas.List.Splits.{join_with_byte-slice_split}
 use Rattle.std.proofs.lemmas.Str.{IsAscii-append, IsUtf8-from_ascii}
 use Rattle.std.proofs.lemmas.Str.Ascii.{IsAscii-nil, IsAscii-cons}
+use Rattle.lots.specs.Texts.{space}
 use Rattle.lots.specs.declared.Lot.{Lot}
 use Rattle.console.specs.Lines.{Name, overflow_call, rule_call, open_call, admit_call, narrow_call, tighten_call, solve_call, windows_call, word_of, TableForm, RuleForm, NumbersForm, SolveForm, Asks, Known}
 use Rattle.console.specs.Piles.{pile_word, Names}
 use Rattle.console.specs.declared.piles.Pile.{Pile, Idle, Overload, TimeTable, NotFirst, House, Turned', Both'}
-use Rattle.console.specs.Syntax.{Number, NumberOf, Cell, pieces, space, comma}
+use Rattle.console.specs.Syntax.{Number, NumberOf, Cell, pieces, comma}
 use Rattle.console.proofs.Numerals.{decimals}
 
 joined_ascii : (c : ℕ) → c < 128 → (ws : List (List ℕ)) → AllByRecursion IsAscii ws → IsAscii (join_with_byte c ws)

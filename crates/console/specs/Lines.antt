@@ -8,6 +8,7 @@ use Rattle.elastic.specs.Overflow as elastic
 use Rattle.rule.specs.Meanings.{Applied}
 use Rattle.rule.specs.declared.Verdict.{Verdict}
 use Rattle.lots.specs.Tables.{blank}
+use Rattle.lots.specs.Texts.{space}
 use Rattle.tree.specs.Answer.{Solved}
 use Rattle.tree.specs.declared.Search.{Search}
 use Rattle.plan.specs.Calls.{Opened, Admitted, Narrowed, Tightened}
@@ -18,7 +19,7 @@ use Rattle.console.specs.declared.answers.Answer.{Answer}
 use Rattle.console.specs.declared.answers.Answer.TheVariants as answer
 use Rattle.console.specs.declared.answers.Fault.{Fault}
 use Rattle.console.specs.declared.answers.Fault.TheVariants as fault
-use Rattle.console.specs.Syntax.{Number, Budget, Cell, lot_numbers, pieces, space}
+use Rattle.console.specs.Syntax.{Number, Budget, Cell, lot_numbers, pieces}
 
 -- the calls, by name
 pub data Name : Type 0 where

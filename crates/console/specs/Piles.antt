@@ -32,13 +32,9 @@ pile_meaning (Both' a p b q) = both (pile_meaning p) (pile_meaning q)
 
 -- a name alone is one level; turned and both are one more than what is in them
 abbrev pub levels : Pile → ℕ
-levels Idle = 1
-levels Overload = 1
-levels TimeTable = 1
-levels NotFirst = 1
-levels House = 1
 levels (Turned' a p) = levels p + 1
 levels (Both' a p b q) = max (levels p) (levels q) + 1
+levels p = 1
 
 abbrev pub max_levels : ℕ
 max_levels = 500

@@ -2,6 +2,7 @@
 use Rattle.std.specs.Prelude.{ℕ, List, ◌++◌, vec_items, codes, decimal}
 use Rattle.std.specs.List.{flat_map}
 use Rattle.lots.specs.Refusals.{refusal_number}
+use Rattle.lots.specs.Texts.{numbers}
 use Rattle.lots.specs.declared.Lot.{Lot}
 use Rattle.rule.specs.Verdicts.{shown_verdict}
 use Rattle.tree.specs.declared.Search.{Search}
@@ -16,13 +17,9 @@ shown_cell x = decimal x.est ++ (codes "," ++ (decimal x.lct ++ (codes "," ++ (d
 abbrev pub shown_cells : List Lot → List ℕ
 shown_cells T = flat_map (λ x. codes " " ++ shown_cell x) T
 
--- numbers, each after a space
-abbrev pub shown_numbers : List ℕ → List ℕ
-shown_numbers ns = flat_map (λ n. codes " " ++ decimal n) ns
-
 -- the answer of a search, and the starts of the best schedule
 abbrev pub shown_search : Search → List ℕ → List ℕ
-shown_search (Best end nodes) starts = codes "best " ++ (decimal end ++ (codes " " ++ (decimal nodes ++ shown_numbers starts)))
+shown_search (Best end nodes) starts = codes "best " ++ (decimal end ++ (codes " " ++ (decimal nodes ++ numbers starts)))
 shown_search (None nodes) starts = codes "none " ++ decimal nodes
 shown_search (Spent nodes) starts = codes "spent " ++ decimal nodes
 

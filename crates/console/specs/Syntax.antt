@@ -1,24 +1,15 @@
 -- How a line writes words, numbers and cells.
-use Rattle.std.specs.Prelude.{◌≡◌, ℕ, ◌+◌, ◌-◌, ◌*◌, ◌^◌, ◌<◌, true, cond, List, [], ◌∷◌, length, Option, MatchOption, ◌==◌}
+use Rattle.std.specs.Prelude.{◌≡◌, ℕ, ◌+◌, ◌-◌, ◌*◌, ◌^◌, ◌<◌, true, cond, List, [], ◌∷◌, length, ◌==◌}
 use Rattle.std.specs.List.{AllZip, slice_split}
 use Rattle.std.specs.declared.str.Split.{Split}
 use Rattle.std.specs.Str.Iter.{split_text, split_has_more, split_pattern}
 use Rattle.std.specs.Str.{all_ascii_digits}
+use Rattle.lots.specs.Texts.{digit_zero}
 use Rattle.lots.specs.declared.Lot.{Lot}
 
--- the bytes of a space, a comma and the digit 0
-abbrev pub space : ℕ
-space = 32
-
+-- the byte that parts the numbers of a cell
 abbrev pub comma : ℕ
 comma = 44
-
-abbrev pub digit_zero : ℕ
-digit_zero = 48
-
--- the option holds what R holds of, and is empty where R holds of nothing
-abbrev pub Reads : {X : Type 0} → (X → Type 0) → Option X → Type 0
-Reads {X} R r = MatchOption r ((x : X) → R x → ⊥) R
 
 -- what stands between the bytes c: one piece more than there are of c, and a piece may be empty
 abbrev pub pieces : ℕ → List ℕ → List (List ℕ)

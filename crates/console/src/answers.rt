@@ -1,7 +1,8 @@
 // What a line is answered, and why a call comes to no answer of its own.
 ghost use Rattle.std.specs.Prelude.{◌≡◌, Some};
 ghost use Rattle.std.specs.Fmt.{WritesOnOk};
-ghost use Rattle.console.specs.Shown.{shown_answer, shown_cells, shown_numbers, shown_search};
+ghost use Rattle.lots.specs.Texts.{numbers as written_numbers};
+ghost use Rattle.console.specs.Shown.{shown_answer, shown_cells, shown_search};
 ghost use Rattle.console.specs.declared.answers.Fault.TheVariants.{Refused as refused_by, Memory as out_of_memory};
 
 use lots::{Lot, Refusal};
@@ -26,7 +27,7 @@ pub enum Answer {
 
 // Writes each lot as ` est,lct,p,c`.
 fn write_cells<W: fmt::Write>(lots: &[Lot], f: &mut fmt::Formatter<W>) -> fmt::Result
-    ensures { WritesOnOk W.Write.write_str_gives f.old result (shown_cells lots.now) f.new }
+    ensures answer { WritesOnOk W.Write.write_str_gives f.old result (shown_cells lots.now) f.new }
 {
     for lot in lots {
         let Lot { est, lct, p, c } = *lot;
@@ -37,7 +38,7 @@ fn write_cells<W: fmt::Write>(lots: &[Lot], f: &mut fmt::Formatter<W>) -> fmt::R
 
 // Writes each number after a space.
 fn write_numbers<W: fmt::Write>(numbers: &[u16], f: &mut fmt::Formatter<W>) -> fmt::Result
-    ensures { WritesOnOk W.Write.write_str_gives f.old result (shown_numbers numbers.now) f.new }
+    ensures answer { WritesOnOk W.Write.write_str_gives f.old result (written_numbers numbers.now) f.new }
 {
     for number in numbers {
         write!(f, " {number}")?;
@@ -51,7 +52,7 @@ fn write_search<W: fmt::Write>(
     starts: &[u16],
     f: &mut fmt::Formatter<W>,
 ) -> fmt::Result
-    ensures { WritesOnOk W.Write.write_str_gives f.old result (shown_search search starts.now) f.new }
+    ensures answer { WritesOnOk W.Write.write_str_gives f.old result (shown_search search starts.now) f.new }
 {
     match search {
         Search::Best { end, nodes } => {

@@ -1,5 +1,6 @@
 // A text that is cut at a mark, and read part by part: the words of a line, or the numbers of a cell.
-ghost use Rattle.std.specs.Prelude.{◌≡◌, ◌<◌};
+ghost use Rattle.std.specs.Prelude.{◌≡◌, IsTrue};
+ghost use Rattle.std.specs.Char.{is_ascii};
 ghost use Rattle.std.specs.Iterator.{YieldsFirstRef, item_count};
 ghost use Rattle.console.specs.Syntax.{pieces};
 
@@ -13,7 +14,8 @@ pub struct Parts<'a> {
 }
 
 impl<'a> Model for Parts<'a> {
-    ghost use Rattle.std.specs.Prelude.{ℕ, List, ◌<◌};
+    ghost use Rattle.std.specs.Prelude.{ℕ, List, IsTrue};
+    ghost use Rattle.std.specs.Char.{is_ascii};
     ghost use Rattle.std.specs.Str.Iter.{split_pattern};
     ghost use Rattle.console.specs.Syntax.{to_come};
 
@@ -21,14 +23,14 @@ impl<'a> Model for Parts<'a> {
 
     ghost view = { λ s. to_come s.left };
 
-    ghost invariant = { λ s. split_pattern s.left < 128 };
+    ghost invariant = { λ s. IsTrue (is_ascii (split_pattern s.left)) };
 }
 
 impl<'a> Parts<'a> {
     // The parts between the marks of a text. A mark is an ASCII character, which is one byte.
     pub fn cut(text: &'a str, mark: char) -> Parts<'a>
-        requires { mark < 128 }
-        ensures { result ≡ pieces mark text.now }
+        requires ascii { IsTrue (is_ascii mark) }
+        ensures answer { result ≡ pieces mark text.now }
     {
         Parts {
             left: text.split(mark),

@@ -1,8 +1,9 @@
 // Reads the words of a line: numbers and cells.
 ghost use Rattle.std.specs.Prelude.{◌≡◌, ℕ, List, length, MatchResult};
 ghost use Rattle.std.specs.List.{AllZip};
+ghost use Rattle.lots.specs.Texts.{Reads};
 ghost use Rattle.console.specs.Lines.{Unread, TableForm};
-ghost use Rattle.console.specs.Syntax.{Reads, Number, Budget, lot_numbers, Cell};
+ghost use Rattle.console.specs.Syntax.{Number, Budget, lot_numbers, Cell};
 
 use crate::answers::Fault;
 use crate::parts::Parts;
@@ -13,7 +14,7 @@ use std::alloc::Global;
 
 // The number of 32 bits that the word writes in decimal digits alone, where it fits.
 pub fn budget(word: &str) -> Option<u32>
-    ensures { Reads (Budget word.now) result }
+    ensures answer { Reads (Budget word.now) result }
 {
     // `parse` would take a plus sign.
     if word.starts_with('+') {
@@ -24,14 +25,14 @@ pub fn budget(word: &str) -> Option<u32>
 
 // The number of 16 bits, as above.
 fn number(word: &str) -> Option<u16>
-    ensures { Reads (Number word.now) result }
+    ensures answer { Reads (Number word.now) result }
 {
     u16::try_from(budget(word)?).ok()
 }
 
 // The numbers that the parts write, where there are just `N` of them.
 pub fn numbers<const N: usize>(mut parts: Parts<'_>) -> Option<[u16; N]>
-    ensures { Reads (λ ns. (length ns ≡ N) × AllZip Number parts.entry ns) result }
+    ensures answer { Reads (λ ns. (length ns ≡ N) × AllZip Number parts.entry ns) result }
 {
     let mut numbers = [0; N];
     for slot in numbers.iter_mut() {
@@ -45,7 +46,7 @@ pub fn numbers<const N: usize>(mut parts: Parts<'_>) -> Option<[u16; N]>
 
 // The lot whose four numbers the parts write.
 pub fn lot(parts: Parts<'_>) -> Option<Lot>
-    ensures { Reads (λ x. AllZip Number parts.entry (lot_numbers x)) result }
+    ensures answer { Reads (λ x. AllZip Number parts.entry (lot_numbers x)) result }
 {
     let [est, lct, p, c] = numbers::<4>(parts)?;
     Some(Lot { est, lct, p, c })
@@ -53,14 +54,14 @@ pub fn lot(parts: Parts<'_>) -> Option<Lot>
 
 // The lot of the cell `est,lct,p,c`.
 fn cell(word: &str) -> Option<Lot>
-    ensures { Reads (Cell word.now) result }
+    ensures answer { Reads (Cell word.now) result }
 {
     lot(Parts::cut(word, ','))
 }
 
 // The lots of the cells that the words left write.
 fn cells(heap: Global, words: Parts<'_>) -> Result<Vec<Lot>, Fault>
-    ensures { MatchResult result (λ lots. AllZip Cell words.entry lots.items) (λ f. Unread f ((T : List Lot) → AllZip Cell words.entry T → ⊥)) }
+    ensures answer { MatchResult result (λ lots. AllZip Cell words.entry lots.items) (λ f. Unread f ((T : List Lot) → AllZip Cell words.entry T → ⊥)) }
 {
     let mut lots = Vec::new(heap);
     // A loop: a chain that collects does not promise to fail where a cell is wrong.
@@ -73,7 +74,7 @@ fn cells(heap: Global, words: Parts<'_>) -> Result<Vec<Lot>, Fault>
 
 // The capacity and the lots of the table that the words left write, as `C CELL..`: a pair, which callers take apart at once.
 pub fn table(heap: Global, mut words: Parts<'_>) -> Result<(u16, Vec<Lot>), Fault>
-    ensures { MatchResult result (λ t. TableForm words.entry t.0 t.1.items) (λ f. Unread f ((C : ℕ) (T : List Lot) → TableForm words.entry C T → ⊥)) }
+    ensures answer { MatchResult result (λ t. TableForm words.entry t.0 t.1.items) (λ f. Unread f ((C : ℕ) (T : List Lot) → TableForm words.entry C T → ⊥)) }
 {
     let capacity = words.next().and_then(number).ok_or(Fault::Unknown)?;
     let lots = cells(heap, words)?;

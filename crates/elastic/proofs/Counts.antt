@@ -1,9 +1,9 @@
 -- The different numbers of a list.
 use Rattle.std.proofs.Common.{◌≡◌, ℕ, ◌+◌, ◌*◌, ◌≤◌, Bool, true, false, cond, ◌||◌, eqb, List, [], ◌∷◌, ◌++◌, length, sym, refl, ap, ◌∙◌, inl, inr, arith}
-use Rattle.lots.specs.declared.Lot.{Lot}
 use Rattle.std.proofs.lemmas.List.{append-nil}
 use Rattle.std.proofs.lemmas.Bool.{cases_Bool, cases_eq, eqb-true, or_left, eq-eqb, ne_eqb}
-use Rattle.elastic.specs.Profile.{has, distinct, minutes, points}
+use Rattle.lots.specs.declared.Lot.{Lot}
+use Rattle.elastic.specs.Profile.{has, distinct, minutes, points, points_of_a_lot}
 
 or_swap : (a b c : Bool) → (a || (b || c)) ≡ (b || (a || c))
 or_swap true true c = refl
@@ -54,9 +54,9 @@ distinct_few : (ts : List ℕ) → distinct ts ≤ length ts
 distinct_few [] = omega arith
 distinct_few (t ∷ ts) = omega (arith, at_most_one (has t ts), distinct_few ts)
 
-length_minutes : (Ω : List Lot) → length (minutes Ω) ≡ 3 * length Ω
+length_minutes : (Ω : List Lot) → length (minutes Ω) ≡ points_of_a_lot * length Ω
 length_minutes [] = refl
 length_minutes (x ∷ xs) = omega (arith, length_minutes xs)
 
-pub points_few : (Ω : List Lot) → points Ω ≤ 3 * length Ω
+pub points_few : (Ω : List Lot) → points Ω ≤ points_of_a_lot * length Ω
 points_few Ω = omega (arith, distinct_few (minutes Ω), length_minutes Ω)

@@ -5,12 +5,12 @@ use Rattle.std.specs.Cmp.{nat_cmp_total}
 use Rattle.std.proofs.lemmas.List.{map-append, take-append-drop}
 use Rattle.std.proofs.lemmas.Bool.{false≢true, cases_Bool, or_cases, or_left, or_right, eqb-true, eq-eqb}
 use Rattle.std.proofs.lemmas.Bool.Decides.{nat_tests}
+use Rattle.std.specs.Ordering.{nat_cmp}
 use Rattle.elastic.specs.Profile.{has}
 use Rattle.elastic.specs.Rows.{Stands, Put, Seated}
 use Rattle.elastic.specs.declared.row.Place.{Place}
 use Rattle.elastic.specs.declared.row.Place.TheVariants.{Placed, Present, Full}
 use Rattle.elastic.proofs.Counts.{has_between, has_known}
-use Rattle.std.specs.Ordering.{nat_cmp}
 
 equal_rank : (x y : ℕ) → x ≡ y → nat_cmp x y ≡ Equal
 equal_rank x y e = grind (arith, nat_tests)

@@ -1,14 +1,13 @@
 -- The profile counted from minute 0, and not from the earliest est.
 use Rattle.std.proofs.Common.{◌≡◌, ℕ, zero, suc, ◌+◌, ◌-◌, ◌<◌, ◌≤◌, min, Bool, true, false, cond, leb, ltb, List, [], ◌∷◌, ◌++◌, sym, refl, ap, ◌∙◌, inl, inr, add-suc, arith}
-use Rattle.std.specs.List.{AllByRecursion}
 use Rattle.std.proofs.ByRecursion.{All-append}
 use Rattle.std.proofs.lemmas.List.{append-nil}
 use Rattle.std.proofs.lemmas.Bool.{cases_lt, leb-true, leb-false}
 use Rattle.std.proofs.lemmas.Bool.Decides.{nat_tests}
 use Rattle.lots.specs.Schedules.{spans}
-use Rattle.lots.specs.Tables.{ect}
+use Rattle.lots.specs.Tables.{ect, Fits}
 use Rattle.lots.specs.declared.Lot.{Lot}
-use Rattle.elastic.specs.Parts.{kept}
+use Rattle.elastic.specs.Parts.{run, kept}
 use Rattle.elastic.specs.Profile.{earliest, latest, available, creq, ov_before, overflow}
 use Rattle.elastic.proofs.Profiles.{available_between, creq_between}
 
@@ -51,21 +50,17 @@ pub rest_from : (C : ℕ) (Ω : List Lot) (k : ℕ) → rest (λ t. C) Ω (earli
 rest_from C Ω zero = rest_early (λ t. C) Ω (earliest Ω + 0) (omega arith)
 rest_from C Ω (suc k) = ap (rest (λ t. C) Ω) (add-suc (earliest Ω) k) ∙ omega (arith, rest_from C Ω k)
 
--- a lot ends in its window
-abbrev pub Ends : Lot → Type 0
-Ends x = ect x ≤ x.lct
-
-earliest_latest : (Ω : List Lot) → AllByRecursion Ends Ω → earliest Ω ≤ latest Ω
+earliest_latest : (Ω : List Lot) → Fits Ω → earliest Ω ≤ latest Ω
 earliest_latest [] h = omega arith
 earliest_latest (x ∷ []) h = omega (arith, h.0)
 earliest_latest (x ∷ (y ∷ ys)) h = omega (arith, h.0)
 
-pub overflow_rest : (C : ℕ) (Ω : List Lot) → AllByRecursion Ends Ω → overflow C Ω ≡ rest (λ t. C) Ω (latest Ω)
+pub overflow_rest : (C : ℕ) (Ω : List Lot) → Fits Ω → overflow C Ω ≡ rest (λ t. C) Ω (latest Ω)
 overflow_rest C Ω h =
     let e : earliest Ω + (latest Ω - earliest Ω) ≡ latest Ω = omega (arith, earliest_latest Ω h) in
     sym (rest_from C Ω (latest Ω - earliest Ω)) ∙ ap (rest (λ t. C) Ω) e
 
-creq_late : (Ω : List Lot) (t : ℕ) → AllByRecursion Ends Ω → latest Ω ≤ t → creq Ω t ≡ 0
+creq_late : (Ω : List Lot) (t : ℕ) → Fits Ω → latest Ω ≤ t → creq Ω t ≡ 0
 creq_late [] t h l = refl
 creq_late (x ∷ xs) t h l = omega (arith, spans_past x.est (ect x) x.c t (omega (arith, h.0)), creq_late xs t h.1 (omega arith))
 
@@ -74,7 +69,7 @@ available_late [] t l = refl
 available_late (x ∷ xs) t l = omega (arith, spans_past x.est x.lct x.c t (omega arith), available_late xs t (omega arith))
 
 -- past the latest lct nothing changes
-rest_late : (U : ℕ → ℕ) (Ω : List Lot) → AllByRecursion Ends Ω → (k : ℕ) → rest U Ω (latest Ω + k) ≡ rest U Ω (latest Ω)
+rest_late : (U : ℕ → ℕ) (Ω : List Lot) → Fits Ω → (k : ℕ) → rest U Ω (latest Ω + k) ≡ rest U Ω (latest Ω)
 rest_late U Ω h zero = ap (rest U Ω) (omega arith)
 rest_late U Ω h (suc k) =
     ap (rest U Ω) (add-suc (latest Ω) k)
@@ -86,9 +81,6 @@ latest_push (y ∷ ys) x = omega (arith, latest_push ys x)
 
 -- a run that keeps trays from the earliest est on leaves as much over as fewer trays until its end
 module _ (C c m : ℕ) (fits : c ≤ C) (Ω : List Lot) where
-  abbrev run : Lot
-  run = record { est = earliest Ω; lct = m; p = m - earliest Ω; c = c }
-
   none_kept : m ≤ earliest Ω → (t : ℕ) → rest (λ u. C) Ω t ≡ rest (usable C c m) Ω t
   none_kept early zero = refl
   none_kept early (suc t) = elim (cases_lt t m) [
@@ -97,17 +89,17 @@ module _ (C c m : ℕ) (fits : c ≤ C) (Ω : List Lot) where
   ]
 
   module _ (later : earliest Ω < m) where
-    open_run : (t : ℕ) → available (Ω ++ (run ∷ [])) t ≡ available Ω t + cond (spans (earliest Ω) m t) c 0
-    open_run t = available_between t Ω [] run ∙ ap (λ xs. available xs t + cond (spans (earliest Ω) m t) c 0) (append-nil Ω)
+    open_run : (t : ℕ) → available (Ω ++ (run c m Ω ∷ [])) t ≡ available Ω t + cond (spans (earliest Ω) m t) c 0
+    open_run t = available_between t Ω [] (run c m Ω) ∙ ap (λ xs. available xs t + cond (spans (earliest Ω) m t) c 0) (append-nil Ω)
 
-    due_run : (t : ℕ) → creq (Ω ++ (run ∷ [])) t ≡ creq Ω t + cond (spans (earliest Ω) m t) c 0
+    due_run : (t : ℕ) → creq (Ω ++ (run c m Ω ∷ [])) t ≡ creq Ω t + cond (spans (earliest Ω) m t) c 0
     due_run t =
         let end : earliest Ω + (m - earliest Ω) ≡ m = omega arith in
-        creq_between t Ω [] run
-        ∙ ap (λ xs. creq xs t + cond (spans (earliest Ω) (ect run) t) c 0) (append-nil Ω)
+        creq_between t Ω [] (run c m Ω)
+        ∙ ap (λ xs. creq xs t + cond (spans (earliest Ω) (ect (run c m Ω)) t) c 0) (append-nil Ω)
         ∙ ap (λ n. creq Ω t + cond (spans (earliest Ω) n t) c 0) end
 
-    some_kept : (t : ℕ) → rest (λ u. C) (Ω ++ (run ∷ [])) t ≡ rest (usable C c m) Ω t
+    some_kept : (t : ℕ) → rest (λ u. C) (Ω ++ (run c m Ω ∷ [])) t ≡ rest (usable C c m) Ω t
     some_kept zero = refl
     some_kept (suc t) = elim (cases_lt t (earliest Ω)) [
       | inl h ↦
@@ -126,15 +118,15 @@ module _ (C c m : ℕ) (fits : c ≤ C) (Ω : List Lot) where
       ]
     ]
 
-  kept_by : AllByRecursion Ends Ω → (b : Bool) → leb m (earliest Ω) ≡ b → overflow C (Ω ++ cond b [] (run ∷ [])) ≡ rest (usable C c m) Ω (latest Ω)
+  kept_by : Fits Ω → (b : Bool) → leb m (earliest Ω) ≡ b → overflow C (Ω ++ cond b [] (run c m Ω ∷ [])) ≡ rest (usable C c m) Ω (latest Ω)
   kept_by h true e =
       ap (overflow C) (append-nil Ω) ∙ overflow_rest C Ω h ∙ none_kept (leb-true m (earliest Ω) e) (latest Ω)
   kept_by h false e =
       let later = leb-false m (earliest Ω) e in
-      let ends : AllByRecursion Ends (Ω ++ (run ∷ [])) = All-append Ends Ω (run ∷ []) h (omega arith, tt) in
-      let most = latest (Ω ++ (run ∷ [])) in
-      let past : most ≡ latest Ω + (most - latest Ω) = omega (arith, latest_push Ω run) in
-      overflow_rest C (Ω ++ (run ∷ [])) ends ∙ some_kept later most ∙ ap (rest (usable C c m) Ω) past ∙ rest_late (usable C c m) Ω h (most - latest Ω)
+      let ends : Fits (Ω ++ (run c m Ω ∷ [])) = All-append (λ x. ect x ≤ x.lct) Ω (run c m Ω ∷ []) h (omega arith, tt) in
+      let most = latest (Ω ++ (run c m Ω ∷ [])) in
+      let past : most ≡ latest Ω + (most - latest Ω) = omega (arith, latest_push Ω (run c m Ω)) in
+      overflow_rest C (Ω ++ (run c m Ω ∷ [])) ends ∙ some_kept later most ∙ ap (rest (usable C c m) Ω) past ∙ rest_late (usable C c m) Ω h (most - latest Ω)
 
-  pub overflow_kept : AllByRecursion Ends Ω → overflow C (Ω ++ kept c m Ω) ≡ rest (usable C c m) Ω (latest Ω)
+  pub overflow_kept : Fits Ω → overflow C (Ω ++ kept c m Ω) ≡ rest (usable C c m) Ω (latest Ω)
   overflow_kept h = kept_by h (leb m (earliest Ω)) refl

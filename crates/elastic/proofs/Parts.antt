@@ -1,13 +1,14 @@
 -- Lots of a table that are marked.
-use Rattle.std.proofs.Common.{◌≡◌, ℕ, zero, suc, ◌+◌, ◌-◌, ◌<◌, ◌≤◌, Bool, true, false, cond, ◌&&◌, ◌||◌, eqb, ltb, List, [], ◌∷◌, ◌++◌, length, replicate, get_or, set, sym, refl, ap, ◌∙◌, ap₂, inl, inr, arith}
+use Rattle.std.proofs.Common.{◌≡◌, ℕ, zero, suc, ◌+◌, ◌<◌, ◌≤◌, Bool, true, false, cond, ◌&&◌, ◌||◌, eqb, ltb, List, [], ◌∷◌, ◌++◌, length, replicate, get_or, set, sym, refl, ap, ◌∙◌, ap₂, inl, inr, arith}
 use Rattle.std.specs.List.{AllByRecursion}
-use Rattle.std.proofs.lemmas.Bool.{cases_eq, cases_lt, cond_both, and_from, or_left, or_right, eq-eqb, ne_eqb, lt-ltb, le-ltb, le-leb}
+use Rattle.std.proofs.Math.Bool.{or-false}
+use Rattle.std.proofs.lemmas.Bool.{cases_eq, cases_lt, cond_both, and_from, and_right, or_left, or_right, eq-eqb, ne_eqb, lt-ltb, le-ltb, le-leb}
 use Rattle.std.proofs.lemmas.List.{get_or-replicate, length-replicate, get_or_past, get_or-set_same, get_or-set_other, append-nil}
 use Rattle.lots.specs.Limits.{max_capacity}
 use Rattle.lots.specs.Tables.{lot_at, LawfulLot, Lawful}
 use Rattle.lots.specs.declared.Lot.{Lot}
 use Rattle.lots.proofs.Tables.{lawful_under_most}
-use Rattle.elastic.specs.Parts.{those, kept}
+use Rattle.elastic.specs.Parts.{those, run, kept}
 use Rattle.elastic.specs.Profile.{earliest}
 
 pub those_none : (n : ℕ) (T : List Lot) → those (replicate n false) T ≡ []
@@ -28,14 +29,6 @@ those_all (b ∷ bs) [] h = refl
 those_all (b ∷ bs) (x ∷ xs) h =
     ap₂ (λ c ys. cond c (x ∷ ys) ys) (h 0 (omega arith)) (those_all bs xs (λ k l. h (suc k) (omega arith)))
 
-and_swap : (b : Bool) → (false && b) ≡ (b && false)
-and_swap true = refl
-and_swap false = refl
-
-no_more : (b c : Bool) → b ≡ (b || (false && c))
-no_more true c = refl
-no_more false c = refl
-
 module _ (bs : List Bool) (n l : ℕ) where
   -- the mark of n, which was not set
   pub marks_more : n < l → n < length bs → (k : ℕ) → get_or (set bs n true) k false ≡ (get_or bs k false || (eqb k n && ltb n l))
@@ -44,7 +37,7 @@ module _ (bs : List Bool) (n l : ℕ) where
         ap (λ m. get_or (set bs n true) m false) e ∙ get_or-set_same bs n true false room
         ∙ sym (or_right (get_or bs k false) (eqb k n && ltb n l) (and_from (eqb k n) (ltb n l) (eq-eqb k n e) (lt-ltb n l h)))
     | inr ne ↦
-        get_or-set_other bs n k true false ne ∙ no_more (get_or bs k false) (ltb n l)
+        get_or-set_other bs n k true false ne ∙ sym (or-false (get_or bs k false))
         ∙ ap (λ b. get_or bs k false || (b && ltb n l)) (sym (ne_eqb k n ne))
   ]
 
@@ -56,9 +49,9 @@ module _ (bs : List Bool) (n l : ℕ) where
           let there = ap (λ m. get_or bs m false) e ∙ known h in
           there ∙ sym (or_left (get_or bs k false) (eqb k n && ltb n l) there)
       | inr h ↦
-          no_more (get_or bs k false) (eqb k n) ∙ ap (λ b. get_or bs k false || b) (and_swap (eqb k n) ∙ ap (λ b. eqb k n && b) (sym (le-ltb n l h)))
+          sym (or-false (get_or bs k false)) ∙ ap (λ b. get_or bs k false || b) (sym (and_right (eqb k n) (ltb n l) (le-ltb n l h)))
     ]
-    | inr ne ↦ no_more (get_or bs k false) (ltb n l) ∙ ap (λ b. get_or bs k false || (b && ltb n l)) (sym (ne_eqb k n ne))
+    | inr ne ↦ sym (or-false (get_or bs k false)) ∙ ap (λ b. get_or bs k false || (b && ltb n l)) (sym (ne_eqb k n ne))
   ]
 
 -- marks from the front
@@ -131,7 +124,7 @@ those_lawful bs C T given =
 
 pub nothing_kept : (Ω : List Lot) → Ω ++ kept 0 0 Ω ≡ Ω
 nothing_kept Ω =
-    ap (λ b. Ω ++ cond b [] (record { est = earliest Ω; lct = 0; p = 0 - earliest Ω; c = 0 } ∷ [])) (le-leb 0 (earliest Ω) (omega arith)) ∙ append-nil Ω
+    ap (λ b. Ω ++ cond b [] (run 0 0 Ω ∷ [])) (le-leb 0 (earliest Ω) (omega arith)) ∙ append-nil Ω
 
 pub trays_fit : (C : ℕ) (T : List Lot) (n : ℕ) → AllByRecursion (LawfulLot C) T → (lot_at T n).c ≤ C
 trays_fit C [] n h = omega arith

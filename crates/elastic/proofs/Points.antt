@@ -8,15 +8,15 @@ use Rattle.std.proofs.lemmas.List.Edits.{length-insert}
 use Rattle.std.proofs.ByRecursion.{All-weaker, All-append, All-take, All-drop, All-set, All-get_or}
 use Rattle.std.proofs.lemmas.List.{map-set, set-get_or, take-append-drop, get_or-set_same, get_or-set_other, get_or-map, get_or_default, get_or-take, length-set, length-take}
 use Rattle.std.proofs.lemmas.Bool.{cases_eq}
+use Rattle.std.specs.Ordering.{nat_cmp}
+use Rattle.elastic.specs.Points.{upto, point_at, altered, Small, minutes_of, Rising, Entered}
 use Rattle.elastic.specs.Profile.{has}
 use Rattle.elastic.specs.Rows.{Stands, Put, Seated}
+use Rattle.elastic.specs.declared.profile.Point.{Point}
 use Rattle.elastic.specs.declared.row.Place.TheVariants.{Placed, Present}
-use Rattle.elastic.specs.Points.{upto, point_at, altered, Small, minutes_of, Rising, Entered}
-use Rattle.elastic.proofs.Rows.{nowhere}
 use Rattle.elastic.proofs.Counts.{has_known}
 use Rattle.elastic.proofs.Keys.{keys_inserted, key_stands, stands_known, lacks_key}
-use Rattle.elastic.specs.declared.profile.Point.{Point}
-use Rattle.std.specs.Ordering.{nat_cmp}
+use Rattle.elastic.proofs.Rows.{nowhere}
 
 abbrev minute : Point → ℕ
 minute p = p.minute

@@ -4,14 +4,14 @@ use Rattle.std.specs.List.{AllByRecursion}
 use Rattle.std.proofs.lemmas.List.{append_assoc}
 use Rattle.std.proofs.lemmas.Int.{ints}
 use Rattle.std.proofs.lemmas.Bool.Decides.{nat_tests}
+use Rattle.std.proofs.ByRecursion.{All-weaker}
 use Rattle.lots.specs.Limits.{max_capacity}
 use Rattle.lots.specs.Schedules.{spans}
 use Rattle.lots.specs.Tables.{ect, LawfulLot}
 use Rattle.lots.specs.declared.Lot.{Lot}
-use Rattle.elastic.specs.Profile.{available, creq, minutes, has, distinct}
 use Rattle.elastic.specs.Points.{max_points, minutes_of, at_est, at_ect, at_lct, Small, Entered, Profiles}
+use Rattle.elastic.specs.Profile.{available, creq, minutes, has, distinct, points_of_a_lot}
 use Rattle.elastic.specs.declared.profile.Point.{Point}
-use Rattle.std.proofs.ByRecursion.{All-weaker}
 use Rattle.elastic.proofs.Counts.{has_between, distinct_between, at_most_one, points_few}
 use Rattle.elastic.proofs.Points.{weaker_small}
 
@@ -51,9 +51,9 @@ module _ (t : ℕ) where
   step_up_down : (a b c : ℕ) → a ≤ b → cond (leb a t) (pos c) (pos 0) +ℤ cond (leb b t) (neg_ℤ (pos c)) (pos 0) ≡ pos (cond (spans a b t) c 0)
   step_up_down a b c h = grind (arith, ints, nat_tests)
 
-none : (b : Bool) → cond b (pos 0) (pos 0) ≡ pos 0
-none true = refl
-none false = refl
+no_change : (b : Bool) → cond b (pos 0) (pos 0) ≡ pos 0
+no_change true = refl
+no_change false = refl
 
 module _ (x : Lot) where
   module _ (ok : LawfulLot max_capacity x) where
@@ -95,7 +95,7 @@ module _ (ps qs rs ps' : List Point) (Ω Ψ : List Lot) (x : Lot) (p : Profiles 
       let joined = minutes_append Ω (x ∷ Ψ) ∙ after_push (minutes Ω) (ect x ∷ (x.lct ∷ minutes Ψ)) x.est ∙ after_push est (x.lct ∷ minutes Ψ) (ect x) in
       subst (Gathers ps') (sym joined) third
 
-  total : 3 * max_capacity * length (Ω ++ Ψ) + max_capacity + max_capacity + max_capacity ≡ 3 * max_capacity * length (Ω ++ (x ∷ Ψ))
+  total : points_of_a_lot * max_capacity * length (Ω ++ Ψ) + max_capacity + max_capacity + max_capacity ≡ points_of_a_lot * max_capacity * length (Ω ++ (x ∷ Ψ))
   total = omega (arith, length_between Ω Ψ x)
 
   -- the lot x may come in anywhere in the list
@@ -104,8 +104,8 @@ module _ (ps qs rs ps' : List Point) (Ω Ψ : List Lot) (x : Lot) (p : Profiles 
     rising = k.rising;
     count = gathered.count;
     at = gathered.at;
-    available = λ t. omega (arith, ints, p.available t, n.available t, m.available t, k.available t, step_up_down t x.est x.lct x.c (omega arith), available_between t Ω Ψ x, none (leb (ect x) t));
-    required = λ t. omega (arith, ints, p.required t, n.required t, m.required t, k.required t, step_up_down t x.est (ect x) x.c (omega arith), creq_between t Ω Ψ x, none (leb x.lct t));
+    available = λ t. omega (arith, ints, p.available t, n.available t, m.available t, k.available t, step_up_down t x.est x.lct x.c (omega arith), available_between t Ω Ψ x, no_change (leb (ect x) t));
+    required = λ t. omega (arith, ints, p.required t, n.required t, m.required t, k.required t, step_up_down t x.est (ect x) x.c (omega arith), creq_between t Ω Ψ x, no_change (leb x.lct t));
     small = subst (λ b. AllByRecursion (Small b) ps') total (k.small _ max_capacity (m.small _ max_capacity (n.small _ max_capacity p.small (small_at_est x ok)) (small_at_ect x ok)) (small_at_lct x ok));
   }
 
@@ -126,7 +126,7 @@ entered_as ps qs e e' is = subst (λ x. Entered ps x qs) is
 abbrev pub Few : ℕ → List Point → Type 0
 Few n ps = (length ps ≤ n) × AllByRecursion (Small (max_capacity * n)) ps
 
-pub few_from_profile : (ps : List Point) (Ω : List Lot) → Profiles ps Ω → Few (3 * length Ω) ps
+pub few_from_profile : (ps : List Point) (Ω : List Lot) → Profiles ps Ω → Few (points_of_a_lot * length Ω) ps
 few_from_profile ps Ω p = (omega (arith, p.count, points_few Ω), subst (λ b. AllByRecursion (Small b) ps) (omega arith) p.small)
 
 pub few_more : (n : ℕ) (ps qs : List Point) (e : Point) → Few n ps → Small max_capacity e → Entered ps e qs → Few (n + 1) qs

@@ -1,11 +1,11 @@
 -- Lots that have a schedule leave no overflow.
 use Rattle.std.proofs.Common.{◌≡◌, ℕ, zero, suc, ◌+◌, ◌-◌, ◌*◌, ◌≤◌, min, Bool, true, false, cond, List, [], ◌∷◌, refl, ap, ◌∙◌, ap₂, mul-le-mul_left, mul-zero, mul-one, mul-add, arith}
-use Rattle.std.specs.List.{AllByRecursion}
 use Rattle.std.proofs.lemmas.Bool.Decides.{nat_tests}
 use Rattle.lots.specs.Schedules.{spans, load, Placed, Schedule}
 use Rattle.lots.specs.declared.Lot.{Lot}
+use Rattle.lots.proofs.Schedules.{placed_fits}
 use Rattle.elastic.specs.Profile.{latest, available, creq, overflow}
-use Rattle.elastic.proofs.Minutes.{rest, Ends, overflow_rest}
+use Rattle.elastic.proofs.Minutes.{rest, overflow_rest}
 
 -- how many of the p minutes from a are before t
 abbrev done : ℕ → ℕ → ℕ → ℕ
@@ -82,11 +82,6 @@ rest_work C Ω ss h (suc t) =
       load_open t Ω ss h.placed,
       h.within t,
     )
-
-placed_fits : (Ω : List Lot) (ss : List ℕ) → Placed Ω ss → AllByRecursion Ends Ω
-placed_fits [] ss h = tt
-placed_fits (x ∷ xs) [] h = absurd h
-placed_fits (x ∷ xs) (s ∷ ss) h = (omega arith, placed_fits xs ss h.1)
 
 pub overflow_of_schedulable : (C : ℕ) (Ω : List Lot) (ss : List ℕ) → Schedule C Ω ss → overflow C Ω ≡ 0
 overflow_of_schedulable C Ω ss h =

@@ -6,18 +6,18 @@ use Rattle.std.proofs.lemmas.Int.{ints}
 use Rattle.std.proofs.ByRecursion.{All-weaker, All-from_get_or}
 use Rattle.std.proofs.lemmas.Bool.{cases_lt, lt-leb, le-leb, ne_eqb, eq-eqb, eqb-true, or_cases, or_left, or_right, false≢true, both_ways}
 use Rattle.std.proofs.lemmas.Bool.Decides.{nat_tests}
-use Rattle.lots.specs.Schedules.{spans}
+use Rattle.std.specs.Ordering.{nat_cmp}
 use Rattle.lots.specs.Limits.{horizon, max_capacity, max_lots}
+use Rattle.lots.specs.Schedules.{spans}
 use Rattle.lots.specs.Tables.{ect, LawfulLot, Lawful}
 use Rattle.lots.specs.declared.Lot.{Lot}
+use Rattle.elastic.specs.Parts.{kept}
+use Rattle.elastic.specs.Points.{minutes_of, no_point, point_at, Rising, upto, Profiles}
 use Rattle.elastic.specs.Profile as profile
 use Rattle.elastic.specs.Profile.{latest, creq, minutes, has, overflow}
-use Rattle.elastic.specs.Parts.{kept}
-use Rattle.elastic.specs.Points.{minutes_of, point_at, Rising, upto, Profiles}
 use Rattle.elastic.specs.declared.profile.Point.{Point}
 use Rattle.elastic.proofs.Keys.{key_has}
 use Rattle.elastic.proofs.Minutes.{rest, usable, usable_before, usable_after, overflow_kept}
-use Rattle.std.specs.Ordering.{nat_cmp}
 
 -- over n minutes in which r trays are required and m can be used
 pub rest_level : (U : ℕ → ℕ) (Ω : List Lot) (t n r m : ℕ) → ((u : ℕ) → t ≤ u → u < t + n → (creq Ω u ≡ r) × (min (profile.available Ω u) (U u) ≡ m)) → rest U Ω (t + n) ≡ (rest U Ω t + n * r) - n * m
@@ -193,15 +193,12 @@ rest_most : (U : ℕ → ℕ) (Ω : List Lot) → Lawful max_capacity Ω → (t 
 rest_most U Ω ok zero = omega arith
 rest_most U Ω ok (suc t) = omega (arith, rest_most U Ω ok t, creq_most t Ω ok.each, ok.few_lots)
 
-abbrev nowhere : Point
-nowhere = record { minute = 0; available = pos 0; required = pos 0 }
-
 module _ (U : ℕ → ℕ) (Ω : List Lot) (ok : Lawful max_capacity Ω) where
   pub walks_from : (ps : List Point) → Profiles ps Ω → Walks U Ω 0 0 0 0 ps
   walks_from ps p = record {
     rising = p.rising;
-    ahead = All-from_get_or (λ q. 0 ≤ q.minute) ps nowhere (λ i h. omega arith);
-    inside = All-from_get_or (λ q. q.minute ≤ latest Ω) ps nowhere (λ i h. minutes_inside max_capacity _ Ω ok.each (sym (p.at _) ∙ key_has (λ (p : Point). p.minute) ps i _ _ h refl));
+    ahead = All-from_get_or (λ q. 0 ≤ q.minute) ps no_point (λ i h. omega arith);
+    inside = All-from_get_or (λ q. q.minute ≤ latest Ω) ps no_point (λ i h. minutes_inside max_capacity _ Ω ok.each (sym (p.at _) ∙ key_has (λ (p : Point). p.minute) ps i _ _ h refl));
     reached = omega arith;
     covers = λ t h. sym (p.at t);
     available = λ t h. omega (arith, ints, p.available t);

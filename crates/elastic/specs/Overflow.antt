@@ -5,16 +5,16 @@ use Rattle.lots.specs.Tables.{Lawful}
 use Rattle.lots.specs.declared.Lot.{Lot}
 use Rattle.lots.specs.declared.Refusal.{Refusal}
 use Rattle.lots.specs.declared.Refusal.TheVariants.{Unlawful}
-use Rattle.elastic.specs.Profile.{overflow, points}
+use Rattle.elastic.specs.Profile.{overflow, points, points_of_a_lot}
 
 -- the overflow and the number of points of a lawful table, and a refusal of any other
 abbrev pub Answered : ℕ → List Lot → Result (ℕ × ℕ) Refusal → Type 0
 Answered C Ω (Ok (left, count)) = Lawful C Ω × (left ≡ overflow C Ω) × (count ≡ points Ω)
 Answered C Ω (Err e) = (Lawful C Ω → ⊥) × (e ≡ Unlawful)
 
--- a lot brings at most three points
+-- there are no more points than the lots can bring
 abbrev pub FewPoints : List Lot → Result (ℕ × ℕ) Refusal → Type 0
-FewPoints Ω (Ok (left, count)) = count ≤ 3 * length Ω
+FewPoints Ω (Ok (left, count)) = count ≤ points_of_a_lot * length Ω
 FewPoints Ω (Err e) = Unit {0}
 
 -- lots that have a schedule leave no overflow

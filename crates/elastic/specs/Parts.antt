@@ -9,6 +9,10 @@ those [] T = []
 those (b ∷ bs) [] = []
 those (b ∷ bs) (x ∷ xs) = cond b (x ∷ those bs xs) (those bs xs)
 
--- a run that keeps c trays from the earliest est of Ω until m, as a lot; none where m is no later
+-- a run that keeps c trays from the earliest est of Ω until m, as a lot
+abbrev pub run : ℕ → ℕ → List Lot → Lot
+run c m Ω = record { est = earliest Ω; lct = m; p = m - earliest Ω; c = c }
+
+-- that run, and none where m is no later than the earliest est
 abbrev pub kept : ℕ → ℕ → List Lot → List Lot
-kept c m Ω = cond (nat_le m (earliest Ω)) [] (record { est = earliest Ω; lct = m; p = m - earliest Ω; c = c } ∷ [])
+kept c m Ω = cond (nat_le m (earliest Ω)) [] (run c m Ω ∷ [])

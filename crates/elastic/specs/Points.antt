@@ -1,18 +1,17 @@
--- Tables of points: the minutes at which a profile changes, and by how much.
+-- Points: the minutes at which a profile changes, and by how much.
 use Rattle.std.specs.Prelude.{◌≡◌, ℕ, ◌+◌, ◌*◌, cond, ◌||◌, List, [], ◌∷◌, map, length, ℤ, pos, ◌+ℤ◌, neg_ℤ, ◌≤ℤ◌, ◌==◌, nat_le, slice_index_or}
 use Rattle.std.specs.Cmp.{nat_cmp_total}
 use Rattle.std.specs.List.{AllByRecursion}
 use Rattle.lots.specs.Limits.{max_capacity, max_lots}
 use Rattle.lots.specs.Tables.{ect}
 use Rattle.lots.specs.declared.Lot.{Lot}
-use Rattle.elastic.specs.Rows.{Ascending}
 use Rattle.elastic.specs.Profile as profile
-use Rattle.elastic.specs.Profile.{creq, minutes, points, has}
+use Rattle.elastic.specs.Profile.{creq, minutes, points, points_of_a_lot, has}
+use Rattle.elastic.specs.Rows.{Ascending}
 use Rattle.elastic.specs.declared.profile.Point.{Point}
 
--- at most the est, the ect and the lct of each lot
 abbrev pub max_points : ℕ
-max_points = 3 * max_lots
+max_points = points_of_a_lot * max_lots
 
 abbrev pub minutes_of : List Point → List ℕ
 minutes_of ps = map (λ p. p.minute) ps
@@ -31,15 +30,20 @@ available_upto = upto (λ p. p.available)
 abbrev pub required_upto : List Point → ℕ → ℤ
 required_upto = upto (λ p. p.required)
 
--- neither change of a point is greater than b
+-- each change of the point p lies between −b and b
 pub record Small (b : ℕ) (p : Point) : Type 0 where
   pub available_low : neg_ℤ (pos b) ≤ℤ p.available
   pub available_high : p.available ≤ℤ pos b
   pub required_low : neg_ℤ (pos b) ≤ℤ p.required
   pub required_high : p.required ≤ℤ pos b
 
+-- no point: three zeros
+abbrev pub no_point : Point
+no_point = record { minute = 0; available = pos 0; required = pos 0 }
+
+-- the point of a place, from 0; past the last, no point
 abbrev pub point_at : List Point → ℕ → Point
-point_at ps i = slice_index_or ps i (record { minute = 0; available = pos 0; required = pos 0 })
+point_at ps i = slice_index_or ps i no_point
 
 -- the point p with the changes of e added to its own
 abbrev pub altered : Point → Point → Point
@@ -71,4 +75,4 @@ pub record Profiles (ps : List Point) (Ω : List Lot) : Type 0 where
   pub at : (t : ℕ) → has t (minutes_of ps) ≡ has t (minutes Ω)
   pub available : (t : ℕ) → available_upto ps t ≡ pos (profile.available Ω t)
   pub required : (t : ℕ) → required_upto ps t ≡ pos (creq Ω t)
-  pub small : AllByRecursion (Small (3 * max_capacity * length Ω)) ps
+  pub small : AllByRecursion (Small (points_of_a_lot * max_capacity * length Ω)) ps

@@ -1,7 +1,7 @@
 -- The elastic profile of a list of lots Ω under the capacity C.
 use Rattle.std.specs.Prelude.{ℕ, zero, suc, ◌+◌, ◌-◌, min, max, Bool, false, cond, ◌||◌, List, [], ◌∷◌, ◌==◌}
-use Rattle.lots.specs.Tables.{ect}
 use Rattle.lots.specs.Schedules.{spans}
+use Rattle.lots.specs.Tables.{ect}
 use Rattle.lots.specs.declared.Lot.{Lot}
 
 -- the least est, and 0 without lots
@@ -56,6 +56,10 @@ abbrev pub distinct : List ℕ → ℕ
 distinct [] = 0
 distinct (t ∷ ts) = cond (has t ts) 0 1 + distinct ts
 
--- the points of a profile: its distinct minutes
+-- how many points a lot can bring: its est, its ect and its lct
+abbrev pub points_of_a_lot : ℕ
+points_of_a_lot = 3
+
+-- how many points a profile has: one for each distinct minute
 abbrev pub points : List Lot → ℕ
 points Ω = distinct (minutes Ω)

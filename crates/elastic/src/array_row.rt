@@ -27,7 +27,7 @@ impl<E: Keyed, const N: usize> Model for ArrayRow<E, N> {
 // Puts an element among the first `len` of these cells, and answers how many these are then. It is given the cells
 // alone, so that the row's order may wait until its length is written.
 fn put_among<E: Keyed + Copy>(cells: &mut [E], len: usize, element: E) -> (Place, usize)
-    requires { len ≤ length cells.old }
+    requires len { len ≤ length cells.old }
     ensures stored { Stored element (take len cells.old) cells.old (take result.1 cells.new) cells.new result.0 }
     ensures seated { (o : IsTotalOrder E.Key.Ord.cmp) → Ascending o E.keyed (take len cells.old) → Seated o E.keyed element (take len cells.old) result.0 }
     ensures ascends { (o : IsTotalOrder E.Key.Ord.cmp) → Ascending o E.keyed (take len cells.old) → Ascending o E.keyed (take result.1 cells.new) }
@@ -41,7 +41,7 @@ fn put_among<E: Keyed + Copy>(cells: &mut [E], len: usize, element: E) -> (Place
 impl<E: Keyed + Copy + Default, const N: usize> ArrayRow<E, N> {
     // A row of no elements.
     pub fn new() -> ArrayRow<E, N>
-        ensures { result ≡ [] }
+        ensures empty { result ≡ [] }
     {
         ArrayRow {
             cells: [E::default(); N],

@@ -18,7 +18,7 @@ pub use row::{Keyed, Place, Row};
 pub fn overflow_of(table: Table<'_>) -> (u32, usize)
     ensures answer { Answered table.entry.capacity table.entry.lots.now (Ok result) }
     ensures points { FewPoints table.entry.lots.now (Ok result) }
-    ensures sound { NoneIfSchedulable table.entry.capacity table.entry.lots.now (Ok result) }
+    ensures none_if_schedulable { NoneIfSchedulable table.entry.capacity table.entry.lots.now (Ok result) }
 {
     Profile::of(table).overflow()
 }
@@ -27,7 +27,7 @@ pub fn overflow_of(table: Table<'_>) -> (u32, usize)
 pub fn overflow(capacity: u16, lots: &[Lot]) -> Result<(u32, usize), Refusal>
     ensures answer { Answered capacity lots.now result }
     ensures points { FewPoints lots.now result }
-    ensures sound { NoneIfSchedulable capacity lots.now result }
+    ensures none_if_schedulable { NoneIfSchedulable capacity lots.now result }
 {
     Ok(overflow_of(Table::new(capacity, lots)?))
 }

@@ -1,4 +1,4 @@
-// The points of an elastic profile: the minutes at which it changes, and by how much.
+// The elastic profile of some lots of a table: its points, and what is left over at the last of them.
 ghost use Rattle.std.specs.Prelude.{◌≡◌, ◌+◌, ◌-◌, ◌*◌, ◌<◌, ◌≤◌, min, ℕ, false, ◌&&◌, ◌||◌, ◌==◌, nat_lt, List, ◌∷◌, ◌++◌, length, slice_index_or, pos, ◌+ℤ◌, ◌≤ℤ◌, slice_set};
 ghost use Rattle.std.specs.List.{AllByRecursion};
 ghost use Rattle.lots.specs.Limits.{horizon, max_capacity, max_lots};
@@ -13,8 +13,10 @@ use crate::array_row::ArrayRow;
 use crate::row::{Keyed, Place};
 use lots::{Lot, MAX_LOTS, Table};
 
-// A profile has at most the est, the ect and the lct of each lot.
-const MAX_POINTS: usize = 3 * MAX_LOTS;
+// At most the est, the ect and the lct.
+const POINTS_OF_A_LOT: usize = 3;
+
+const MAX_POINTS: usize = POINTS_OF_A_LOT * MAX_LOTS;
 
 // A minute, and by how much the available and the required trays change at it.
 #[derive(Clone, Copy, Default)]
@@ -27,7 +29,7 @@ struct Point {
 impl Point {
     // From its est on, a lot's trays are available and required.
     fn at_est(lot: &Lot) -> Point
-        ensures { result ≡ at_est lot.now }
+        ensures answer { result ≡ at_est lot.now }
     {
         let c = i32::from(lot.c);
         Point {
@@ -39,8 +41,8 @@ impl Point {
 
     // From its ect on, they are required no more.
     fn at_ect(lot: &Lot) -> Point
-        requires { LawfulLot max_capacity lot.now }
-        ensures { result ≡ at_ect lot.now }
+        requires lawful { LawfulLot max_capacity lot.now }
+        ensures answer { result ≡ at_ect lot.now }
     {
         Point {
             minute: lot.est + lot.p,
@@ -51,7 +53,7 @@ impl Point {
 
     // From its lct on, they are available no more.
     fn at_lct(lot: &Lot) -> Point
-        ensures { result ≡ at_lct lot.now }
+        ensures answer { result ≡ at_lct lot.now }
     {
         Point {
             minute: lot.lct,
@@ -62,8 +64,8 @@ impl Point {
 
     // Adds the two changes of another point to those of this one.
     fn add(&mut self, change: Point)
-        requires { (Small (max_capacity * max_points) self.old) × (Small max_capacity change) }
-        ensures { self.new ≡ altered self.old change }
+        requires small { (Small (max_capacity * max_points) self.old) × (Small max_capacity change) }
+        ensures after { self.new ≡ altered self.old change }
     {
         self.available += change.available;
         self.required += change.required;
@@ -95,7 +97,7 @@ impl Points {
         requires few { length self.old.row ≤ max_points }
         requires small { Small (max_capacity * max_points) (point_at self.old.row i) }
         requires small_change { Small max_capacity change }
-        ensures { self.new.row ≡ slice_set self.old.row i (altered (point_at self.old.row i) change) }
+        ensures after { self.new.row ≡ slice_set self.old.row i (altered (point_at self.old.row i) change) }
     {
         let row = &mut self.row;
         let point = &mut row.cells[i];
@@ -107,7 +109,7 @@ impl Points {
         requires free { length self.old.row < max_points }
         requires small { AllByRecursion (Small (max_capacity * max_points)) self.old.row }
         requires small_change { Small max_capacity change }
-        ensures { Entered self.old.row change self.new.row }
+        ensures after { Entered self.old.row change self.new.row }
     {
         match self.row.put(change) {
             Place::Placed(_) => {}
@@ -120,7 +122,7 @@ impl Points {
     fn add(&mut self, lot: &Lot)
         requires lawful { LawfulLot max_capacity lot.now }
         requires profile { (Ω : List Lot) × (length Ω < max_lots) × Profiles self.old.row Ω }
-        ensures { (Ω Ψ : List Lot) → Profiles self.old.row (Ω ++ Ψ) → Profiles self.new.row (Ω ++ lot.now ∷ Ψ) }
+        ensures after { (Ω Ψ : List Lot) → Profiles self.old.row (Ω ++ Ψ) → Profiles self.new.row (Ω ++ lot.now ∷ Ψ) }
     {
         self.enter(Point::at_est(lot));
         self.enter(Point::at_ect(lot));
@@ -134,6 +136,7 @@ pub struct Profile<'a> {
     table: Table<'a>,
     added: [bool; MAX_LOTS],
     points: Points,
+    // After `by`: this has at most one proof, so it is no part of what tells two profiles apart.
     ghost profiles: { Profiles points.row (those added table.lots.now) } by { Prim.hlevel props },
 }
 
@@ -176,6 +179,13 @@ impl<'a> Profile<'a> {
         }
     }
 
+    // The trays of the lot of a number, and none where there is no such lot.
+    fn trays(&self, number: usize) -> u16
+        ensures answer { result ≡ (lot_at self.now.table.lots.now number).c }
+    {
+        self.table.lots.get(number).map_or(0, |lot| lot.c)
+    }
+
     // What is left over at the last point, and the number of points.
     pub fn overflow(&self) -> (u32, usize)
         ensures left { result.0 ≡ left_over self.now.table.capacity (those self.now.added self.now.table.lots.now) }
@@ -183,13 +193,6 @@ impl<'a> Profile<'a> {
     {
         let points = self.points.row.as_slice();
         (walk(points, self.table.capacity, 0, 0), points.len())
-    }
-
-    // The trays of the lot of a number, and none where there is no such lot.
-    fn trays(&self, number: usize) -> u16
-        ensures { result ≡ (lot_at self.now.table.lots.now number).c }
-    {
-        self.table.lots.get(number).map_or(0, |lot| lot.c)
     }
 
     // The same beside a run that keeps the trays of the lot of a number from the first point on until a minute. The run
@@ -209,7 +212,7 @@ impl<'a> Profile<'a> {
 fn walk(points: &[Point], capacity: u16, trays: u16, until: u16) -> u32
     requires profile { (Ω : List Lot) × Lawful max_capacity Ω × Profiles points.now Ω }
     requires fits { trays ≤ capacity }
-    ensures { (Ω : List Lot) → Lawful max_capacity Ω → Profiles points.now Ω → result ≡ left_over capacity (Ω ++ kept trays until Ω) }
+    ensures answer { (Ω : List Lot) → Lawful max_capacity Ω → Profiles points.now Ω → result ≡ left_over capacity (Ω ++ kept trays until Ω) }
 {
     let mut left = 0;
     let mut minute = 0;
@@ -232,7 +235,7 @@ fn left_after(left: u32, span: u16, available: u32, required: u32, capacity: u16
     requires span_short { span ≤ horizon }
     requires available_few { available ≤ max_capacity * max_lots }
     requires required_few { required ≤ max_capacity * max_lots }
-    ensures { result ≡ (left + span * required) - span * min available capacity }
+    ensures answer { result ≡ (left + span * required) - span * min available capacity }
 {
     let span = u32::from(span);
     (left + span * required).saturating_sub(span * available.min(u32::from(capacity)))
@@ -240,10 +243,10 @@ fn left_after(left: u32, span: u16, available: u32, required: u32, capacity: u16
 
 // A number of trays after a change.
 fn changed(trays: u32, change: i32) -> u32
-    requires before { trays ≤ max_capacity * max_lots }
+    requires trays_few { trays ≤ max_capacity * max_lots }
     requires not_below { pos 0 ≤ℤ (pos trays +ℤ change) }
     requires not_above { (pos trays +ℤ change) ≤ℤ pos (max_capacity * max_lots) }
-    ensures { pos result ≡ pos trays +ℤ change }
+    ensures answer { pos result ≡ pos trays +ℤ change }
 {
     (trays as i32 + change) as u32
 }

@@ -22,7 +22,7 @@ pub trait Keyed {
     ghost keyed: { Self → Self.Key };
 
     fn key(&self) -> Self::Key
-        ensures { result ≡ keyed self.now };
+        ensures answer { result ≡ keyed self.now };
 }
 
 // The first `len` of some lent cells, or all of them where there are fewer. The cells are lent: nothing here allocates.
@@ -34,8 +34,8 @@ pub struct Row<'a, E> {
 
 // Puts the element at the place i of the first `len` cells, and moves those from i on by one.
 fn insert<E: Copy>(cells: &mut [E], len: usize, i: usize, element: E)
-    requires { (i ≤ len) × (len < length cells.old) }
-    ensures { cells.new ≡ insert (take len cells.old) i element ++ drop (len + 1) cells.old }
+    requires place { (i ≤ len) × (len < length cells.old) }
+    ensures after { cells.new ≡ insert (take len cells.old) i element ++ drop (len + 1) cells.old }
 {
     cells[len] = element;
     cells[i..len + 1].rotate_right(1);
@@ -45,14 +45,14 @@ fn insert<E: Copy>(cells: &mut [E], len: usize, i: usize, element: E)
 impl<'a, E: Keyed + Copy> Row<'a, E> {
     // The row of the first `len` of these cells.
     pub fn over(cells: &'a mut [E], len: usize) -> Row<'a, E>
-        ensures { (result.len ≡ len) × (result.cells.ghost_name ≡ cells.entry.ghost_name) × (result.cells.now ≡ cells.old) }
+        ensures over { (result.len ≡ len) × (result.cells.ghost_name ≡ cells.entry.ghost_name) × (result.cells.now ≡ cells.old) }
     {
         Row { cells, len }
     }
 
     // How many elements the row has.
     pub fn len(&self) -> usize
-        ensures { result ≡ min self.now.len (length (cells_of self.now)) }
+        ensures answer { result ≡ min self.now.len (length (cells_of self.now)) }
     {
         self.len.min(self.cells.len())
     }
@@ -60,7 +60,7 @@ impl<'a, E: Keyed + Copy> Row<'a, E> {
     // The place of the key in the row: where it stands, or else where it would.
     fn seek(&self, key: E::Key) -> Result<usize, usize>
         ensures bound { MatchResult result (λ i. i < length (row_of self.now)) (λ i. i ≤ length (row_of self.now)) }
-        ensures found { (o : IsTotalOrder E.Key.Ord.cmp) → Ascending o E.keyed (row_of self.now) → Sought o E.keyed key (row_of self.now) result }
+        ensures sought { (o : IsTotalOrder E.Key.Ord.cmp) → Ascending o E.keyed (row_of self.now) → Sought o E.keyed key (row_of self.now) result }
     {
         let len = self.len();
         self.cells[..len].binary_search_by_key(&key, |element| element.key())

@@ -3,3 +3,4 @@ pub mod Refusals
 pub mod Tables
 pub mod Schedules
 pub mod Checks
+pub mod Texts

@@ -1,4 +1,4 @@
--- The numbers that bound every table, sheet and print.
+-- The numbers that bound every table.
 use Rattle.std.specs.Prelude.{ℕ}
 
 -- the last minute of the week, at which every lot is out
@@ -10,11 +10,3 @@ max_capacity = 200
 
 abbrev pub max_lots : ℕ
 max_lots = 64
-
--- the most bytes of a sheet
-abbrev pub max_sheet : ℕ
-max_sheet = 16384
-
--- the fewest bytes of a buffer for its print
-abbrev pub min_print : ℕ
-min_print = 32768

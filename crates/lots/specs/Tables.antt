@@ -20,6 +20,10 @@ blank = record { est = 0; lct = 0; p = 0; c = 0 }
 abbrev pub lot_at : List Lot → ℕ → Lot
 lot_at T j = slice_index_or T j blank
 
+-- every run fits its window
+abbrev pub Fits : List Lot → Type 0
+Fits T = AllByRecursion (λ x. ect x ≤ x.lct) T
+
 -- one lot under the capacity C
 pub record LawfulLot (C : ℕ) (x : Lot) : Type 0 where
   pub runs : 1 ≤ x.p

@@ -15,10 +15,6 @@ pub const HORIZON: u16 = 10_080;
 pub const MAX_CAPACITY: u16 = 200;
 // The most lots that a table may have.
 pub const MAX_LOTS: usize = 64;
-// The most bytes that a sheet may have.
-pub const MAX_SHEET: usize = 16_384;
-// The fewest bytes that a buffer for the print of a sheet may have.
-pub const MIN_PRINT: usize = 32_768;
 
 // One lot of goods: it may go in at `est`, must be out by `lct`, runs for `p` minutes on `c` trays.
 #[derive(Clone, Copy, PartialEq, Eq, Default, Debug)]
@@ -31,35 +27,35 @@ pub struct Lot {
 
 impl Lot {
     pub const fn new(est: u16, lct: u16, p: u16, c: u16) -> Lot
-        ensures { (result.est ≡ est) × (result.lct ≡ lct) × (result.p ≡ p) × (result.c ≡ c) }
+        ensures answer { (result.est ≡ est) × (result.lct ≡ lct) × (result.p ≡ p) × (result.c ≡ c) }
     {
         Lot { est, lct, p, c }
     }
 
     // The earliest minute at which the lot can be out.
     pub fn ect(&self) -> u32
-        ensures { result ≡ earliest_end self.now }
+        ensures answer { result ≡ earliest_end self.now }
     {
         u32::from(self.est) + u32::from(self.p)
     }
 
     // The latest minute at which the lot can go in, and 0 where it never can.
     pub fn lst(&self) -> u16
-        ensures { result ≡ latest_start self.now }
+        ensures answer { result ≡ latest_start self.now }
     {
         self.lct.saturating_sub(self.p)
     }
 
     // Whether the run fits the window.
     pub fn fits(&self) -> bool
-        ensures { IsTrue result ↔ (earliest_end self.now ≤ self.now.lct) }
+        ensures answer { IsTrue result ↔ (earliest_end self.now ≤ self.now.lct) }
     {
         self.ect() <= u32::from(self.lct)
     }
 
     // Whether the lot is lawful in a table of this capacity.
     pub fn is_lawful(&self, capacity: u16) -> bool
-        ensures { IsTrue result ↔ LawfulLot capacity self.now }
+        ensures answer { IsTrue result ↔ LawfulLot capacity self.now }
     {
         1 <= self.p && 1 <= self.c && self.c <= capacity && self.fits() && self.lct <= HORIZON
     }
@@ -67,12 +63,12 @@ impl Lot {
 
 // Whether capacity and lots are a lawful table. They come apart, since only what is lawful is a `Table`.
 pub fn is_lawful(capacity: u16, lots: &[Lot]) -> bool
-    ensures { IsTrue result ↔ Lawful capacity lots.now }
+    ensures answer { IsTrue result ↔ Lawful capacity lots.now }
 {
     if capacity < 1 || capacity > MAX_CAPACITY {
         return false;
     }
-    // Each lot is looked at, and named by its number.
+    // The lots are counted as they are looked at, so a slice of any length is answered soon.
     for (number, lot) in lots.iter().enumerate() {
         if number >= MAX_LOTS || !lot.is_lawful(capacity) {
             return false;

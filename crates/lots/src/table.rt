@@ -11,13 +11,14 @@ use crate::{Lot, Refusal, is_lawful};
 pub struct Table<'a> {
     pub capacity: u16,
     pub lots: &'a [Lot],
+    // After `by`: this has at most one proof, so two tables of the same capacity and lots are equal.
     pub ghost lawful: { Lawful capacity lots.now } by { Prim.hlevel props },
 }
 
 impl<'a> Table<'a> {
     // Refuses a capacity and lots that are no lawful table.
     pub fn new(capacity: u16, lots: &'a [Lot]) -> Result<Table<'a>, Refusal>
-        ensures { MatchResult result (λ t. (t.capacity ≡ capacity) × (t.lots.now ≡ lots.now) × Lawful capacity lots.now) (λ e. (Lawful capacity lots.now → ⊥) × (e ≡ Unlawful)) }
+        ensures answer { MatchResult result (λ t. (t.capacity ≡ capacity) × (t.lots.now ≡ lots.now) × Lawful capacity lots.now) (λ e. (Lawful capacity lots.now → ⊥) × (e ≡ Unlawful)) }
     {
         if is_lawful(capacity, lots) {
             Ok(Table { capacity, lots })

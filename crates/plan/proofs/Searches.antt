@@ -6,7 +6,7 @@ use Rattle.tree.specs.Answer.{nodes, Told, Right}
 use Rattle.tree.specs.declared.Search.{Search}
 use Rattle.tree.specs.declared.Search.TheVariants.{Best, None, Spent}
 use Rattle.tree.proofs.Means.{told_right, told_few}
-use Rattle.plan.specs.Tables.{Table, LawfulTable, NoSchedule, Best as BestOf}
+use Rattle.plan.specs.Tables.{Table, LawfulTable, NoSchedule, BestOf}
 use Rattle.plan.specs.Promise.{IsSpent, Searches}
 
 -- an answer that is right for T is right for B, where both have as many lots and the same bests

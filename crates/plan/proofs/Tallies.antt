@@ -7,7 +7,7 @@ use Rattle.rule.specs.Meanings.{SameWork, Keeps}
 use Rattle.rule.proofs.Chains.{Kept, kept_back, settled_kept}
 use Rattle.rule.proofs.Schedules.{end_same}
 use Rattle.rule.specs.Laws.Tables.{same_work_sym, same_work_trans}
-use Rattle.plan.specs.Tables.{Table, LawfulTable, ScheduleOf, SameSchedules, NoSchedule, Best, empty, with_lot, with_between}
+use Rattle.plan.specs.Tables.{Table, LawfulTable, ScheduleOf, SameSchedules, NoSchedule, BestOf, empty, with_lot, with_between}
 use Rattle.lots.specs.Checks.{Passed}
 use Rattle.plan.specs.Calls.{open_checks, admit_checks, narrow_checks}
 use Rattle.plan.specs.Book.{opening, admitting, narrowing, tightening, solving, Entry, accepted, refused, enter}
@@ -86,7 +86,7 @@ tally_schedules {B} {T} h ss = (
 )
 
 -- what is best of a table is best of another with the same work and schedules
-best_same : (T U : Table) (E : ℕ) (ss : List ℕ) → SameWork T.lots U.lots → ((us : List ℕ) → ScheduleOf T us → ScheduleOf U us) → ((us : List ℕ) → ScheduleOf U us → ScheduleOf T us) → Best T E ss → Best U E ss
+best_same : (T U : Table) (E : ℕ) (ss : List ℕ) → SameWork T.lots U.lots → ((us : List ℕ) → ScheduleOf T us → ScheduleOf U us) → ((us : List ℕ) → ScheduleOf U us → ScheduleOf T us) → BestOf T E ss → BestOf U E ss
 best_same T U E ss w there back b = record {
   schedule = there ss b.schedule;
   ends = end_same T.lots U.lots ss w ∙ b.ends;
@@ -97,7 +97,7 @@ pub tally_answers : {B T : Table} → Tally B T → AnswersTo B T
 tally_answers {B} {T} h =
     let same = tally_schedules h in
     let hopeless : NoSchedule T → NoSchedule B = λ none ss s. none ss ((same ss).0 s) in
-    let bests : (E : ℕ) (ss : List ℕ) → Best T E ss → Best B E ss =
+    let bests : (E : ℕ) (ss : List ℕ) → BestOf T E ss → BestOf B E ss =
     λ E ss. best_same T B E ss (same_work_sym B.lots T.lots h.work) (λ us. (same us).1) (λ us. (same us).0) in
     record {
       lawful = h.lawful;

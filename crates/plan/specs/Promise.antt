@@ -6,7 +6,7 @@ use Rattle.tree.specs.Tree.{BestKnown, unknown, Visit, ways}
 use Rattle.tree.specs.Answer.{nodes, Solved, Right}
 use Rattle.tree.specs.declared.Search.{Search}
 use Rattle.tree.specs.declared.Search.TheVariants.{Best, None, Spent}
-use Rattle.plan.specs.Tables.{Table, LawfulTable, SameSchedules, NoSchedule, Best as BestOf}
+use Rattle.plan.specs.Tables.{Table, LawfulTable, SameSchedules, NoSchedule, BestOf}
 use Rattle.plan.specs.Book.{Entry, book}
 use Rattle.plan.specs.History.{History}
 

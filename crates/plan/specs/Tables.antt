@@ -3,6 +3,7 @@ use Rattle.std.specs.Prelude.{ℕ, min, max, List, [], ◌∷◌, ◌++◌, slic
 use Rattle.lots.specs.Schedules.{Schedule, BestSchedule}
 use Rattle.lots.specs.Tables.{lot_at, Lawful}
 use Rattle.lots.specs.declared.Lot.{Lot}
+use Rattle.rule.specs.Meanings.{Hopeless}
 
 pub record Table : Type 0 where
   pub capacity : ℕ
@@ -21,11 +22,11 @@ SameSchedules T U = (ss : List ℕ) → (ScheduleOf T ss → ScheduleOf U ss) ×
 
 -- T has no schedule
 abbrev pub NoSchedule : Table → Type 0
-NoSchedule T = (ss : List ℕ) → ScheduleOf T ss → ⊥
+NoSchedule T = Hopeless T.capacity T.lots
 
 -- the starts ss are a schedule of T that ends at E, and no schedule of T ends earlier
-abbrev pub Best : Table → ℕ → List ℕ → Type 0
-Best T E ss = BestSchedule T.capacity T.lots E ss
+abbrev pub BestOf : Table → ℕ → List ℕ → Type 0
+BestOf T E ss = BestSchedule T.capacity T.lots E ss
 
 -- no lots under the capacity C
 abbrev pub empty : ℕ → Table

@@ -8,7 +8,7 @@ use lots::{HORIZON, Lot, MAX_LOTS, Refusal};
 
 // Whether a lot may join so many others.
 pub(crate) fn admission(lot: Lot, capacity: u16, len: usize) -> Result<(), Refusal>
-    ensures { Checked (admit_checks lot capacity len) (Unit {0}) (λ _. Unit {0}) result }
+    ensures answer { Checked (admit_checks lot capacity len) (Unit {0}) (λ _. Unit {0}) result }
 {
     if len >= MAX_LOTS {
         return Err(Refusal::TableFull);
@@ -27,7 +27,7 @@ pub(crate) fn admission(lot: Lot, capacity: u16, len: usize) -> Result<(), Refus
 
 // The lot with a tighter window, where its run still fits.
 pub(crate) fn narrowed(lot: Lot, from: u16, to: u16) -> Result<Lot, Refusal>
-    ensures { Checked (window_checks lot from to) (Unit {0}) (λ x. x ≡ between from to lot) result }
+    ensures answer { Checked (window_checks lot from to) (Unit {0}) (λ x. x ≡ between from to lot) result }
 {
     if from > to || to > HORIZON {
         return Err(Refusal::Span);

@@ -3,5 +3,5 @@ ghost use Rattle.plan.specs.Promise.{Promise};
 
 // Every plan answers to its book. The call does nothing: its contract says it.
 pub fn plans_answer_to_their_books()
-    ensures { Promise }
+    ensures promise { Promise }
 {}

@@ -1,4 +1,4 @@
-// Plans tightened by the rules of the house: worked tables.
+// Plans under the rules of the house: what the worked tables do not show.
 #![tactic(auto)]
 
 #[cfg(test)]
@@ -20,40 +20,31 @@ mod tests {
         Ok(plan)
     }
 
-    #[test]
-    fn not_first_moves_twice(rt: HostRuntime) -> Result<(), Fail> {
-        let lots = [
+    // A lot that fills the machine from 4 to 6, one that has to run before it, and one that then has to run after it.
+    fn crowded() -> [Lot; 3] {
+        [
             Lot::new(4, 6, 2, 2),
             Lot::new(0, 6, 3, 1),
             Lot::new(0, 12, 5, 1),
-        ];
-        let mut plan = plan_of(2, &lots)?;
-        assert_eq!(rt; plan.tighten(&NotFirst), (Verdict::Moved, 3));
-        assert_eq!(rt;
-            plan.lots(),
-            [lots[0], lots[1], Lot::new(6, 12, 5, 1)].as_slice()
-        );
-        assert_eq!(rt; plan.tighten(&NotFirst), (Verdict::Still, 1));
-        assert_eq!(rt; plan.narrow(2, 0, 10), Err(Refusal::NoRoom));
-        Ok(())
+        ]
     }
 
     #[test]
-    fn time_table_moves_twice(rt: HostRuntime) -> Result<(), Fail> {
-        let lots = [Lot::new(0, 4, 3, 2), Lot::new(0, 9, 2, 1)];
+    fn narrow_goes_by_the_windows_that_are_left(rt: HostRuntime) -> Result<(), Fail> {
+        let lots = crowded();
         let mut plan = plan_of(2, &lots)?;
-        assert_eq!(rt; plan.tighten(&TimeTable), (Verdict::Moved, 3));
-        assert_eq!(rt; plan.lots(), [lots[0], Lot::new(3, 9, 2, 1)].as_slice());
+        assert_eq!(rt; plan.tighten(&NotFirst), (Verdict::Moved, 3));
+        let left = [lots[0], lots[1], Lot::new(6, 12, 5, 1)];
+        assert_eq!(rt; plan.narrow(2, 0, 10), Err(Refusal::NoRoom));
+        assert_eq!(rt; plan.lots(), left.as_slice());
+        assert_eq!(rt; plan.tighten(&NotFirst), (Verdict::Still, 1));
+        assert_eq!(rt; plan.lots(), left.as_slice());
         Ok(())
     }
 
     #[test]
     fn house_moves_both_ends(rt: HostRuntime) -> Result<(), Fail> {
-        let lots = [
-            Lot::new(4, 6, 2, 2),
-            Lot::new(0, 6, 3, 1),
-            Lot::new(0, 12, 5, 1),
-        ];
+        let lots = crowded();
         let mut plan = plan_of(2, &lots)?;
         assert_eq!(rt; plan.tighten(&house_pile()), (Verdict::Moved, 2));
         assert_eq!(rt;
@@ -77,11 +68,7 @@ mod tests {
 
     #[test]
     fn solve_finds_the_best_schedule(rt: HostRuntime) -> Result<(), Fail> {
-        let lots = [
-            Lot::new(4, 6, 2, 2),
-            Lot::new(0, 6, 3, 1),
-            Lot::new(0, 12, 5, 1),
-        ];
+        let lots = crowded();
         let mut plan = plan_of(2, &lots)?;
         let mut trail = [lots[0]; 13];
         let mut starts = [9; 4];

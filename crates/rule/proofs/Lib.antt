@@ -1,5 +1,5 @@
 pub mod Schedules
 pub mod Raises
 pub mod Slack
-pub mod Chain
+pub mod Settling
 pub mod Chains

@@ -4,9 +4,10 @@ use Rattle.std.specs.List.{AllByRecursion}
 use Rattle.std.proofs.lemmas.List.{at_drop_more}
 use Rattle.std.proofs.lemmas.Bool.{leb-true, and_parts, le-leb, and_from, true≢false}
 use Rattle.lots.specs.Schedules.{Placed, Schedule}
-use Rattle.lots.specs.Tables.{ect, lot_at, LawfulLot, Lawful}
+use Rattle.lots.specs.Tables.{ect, lot_at, Fits, LawfulLot, Lawful}
 use Rattle.lots.specs.declared.Lot.{Lot}
-use Rattle.rule.specs.Meanings.{SameWork, Narrower, SameLaw, Keeps, Hopeless, Gives, Dies, dead, to}
+use Rattle.lots.proofs.Schedules.{placed_fits}
+use Rattle.rule.specs.Meanings.{SameWork, Narrower, LawfulSameWork, Keeps, Hopeless, Gives, Dies, dead, to}
 use Rattle.rule.specs.Raised.{later, later_all, all_fit, raise, Answers}
 use Rattle.rule.specs.declared.Verdict.{Verdict}
 use Rattle.rule.specs.declared.Verdict.TheVariants.{Still, Moved, Dead}
@@ -50,10 +51,9 @@ module _ (bound : ℕ → ℕ) where
       let next : (j : ℕ) → j < length xs → bound (suc k + j) ≤ get_or ss j 0 = λ j h. subst (λ n. bound n ≤ get_or ss j 0) (omega arith) (kept (suc j) (omega arith)) in
       ((omega (arith, p.0.0), p.0.1), later_placed (suc k) xs ss next p.1)
 
-  placed_fits : (T : List Lot) (ss : List ℕ) → Placed T ss → all_fit T ≡ true
-  placed_fits [] ss p = refl
-  placed_fits (x ∷ xs) [] p = absurd p
-  placed_fits (x ∷ xs) (s ∷ ss) p = and_from (leb (ect x) x.lct) (all_fit xs) (le-leb (ect x) x.lct (omega (arith, p.0))) (placed_fits xs ss p.1)
+  each_fits : (T : List Lot) → Fits T → all_fit T ≡ true
+  each_fits [] f = refl
+  each_fits (x ∷ xs) f = and_from (leb (ect x) x.lct) (all_fit xs) (le-leb (ect x) x.lct f.0) (each_fits xs f.1)
 
   module _ (C : ℕ) (T : List Lot) (ok : Lawful C T) where
     abbrev U : List Lot
@@ -67,8 +67,8 @@ module _ (bound : ℕ → ℕ) where
     died P h true e = tt
     died P h false e = h e
 
-    pub raise_lawful : Gives (raise bound T) (SameLaw C T)
-    raise_lawful = given (SameLaw C T) (λ fit. (
+    pub raise_lawful : Gives (raise bound T) (LawfulSameWork C T)
+    raise_lawful = given (LawfulSameWork C T) (λ fit. (
       record {
         some_trays = ok.some_trays;
         few_trays = ok.few_trays;
@@ -89,7 +89,7 @@ module _ (bound : ℕ → ℕ) where
       raise_keeps = given (Keeps C T) (λ fit ss s. schedule_same C T U ss (later_work 0 T) (placed_later ss s) s) (all_fit U) refl
 
       pub raise_dies : Dies (raise bound T) (Hopeless C T)
-      raise_dies = died (Hopeless C T) (λ e ss s. true≢false (sym (placed_fits U ss (placed_later ss s)) ∙ e)) (all_fit U) refl
+      raise_dies = died (Hopeless C T) (λ e ss s. true≢false (sym (each_fits U (placed_fits U ss (placed_later ss s))) ∙ e)) (all_fit U) refl
 
 -- whether a table is another one so far
 abbrev pub Changed : Verdict → List Lot → List Lot → Type 0

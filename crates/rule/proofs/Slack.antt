@@ -2,11 +2,11 @@
 use Rattle.std.proofs.Common.{◌≡◌, ℕ, ◌*◌, ◌<◌, ◌≤◌, List, [], ◌∷◌, length, refl, ap₂, inl, inr, arith}
 use Rattle.std.proofs.lemmas.Bool.{cases_lt}
 use Rattle.std.specs.List.{AllByRecursion}
-use Rattle.lots.specs.Tables.{LawfulLot, Lawful}
-use Rattle.rule.specs.Meanings.{SameWork, Narrower, Meaning, to, Sound}
-use Rattle.lots.specs.declared.Lot.{Lot}
-use Rattle.rule.specs.Settled.{slack}
 use Rattle.lots.specs.Limits.{horizon, max_lots}
+use Rattle.lots.specs.Tables.{LawfulLot, Lawful}
+use Rattle.lots.specs.declared.Lot.{Lot}
+use Rattle.rule.specs.Meanings.{SameWork, Narrower, Meaning, to, Sound}
+use Rattle.rule.specs.Settled.{slack}
 use Rattle.rule.specs.Laws.Outcomes.{gives_at}
 use Rattle.rule.specs.Laws.Tables.{lot_path}
 

@@ -37,8 +37,8 @@ abbrev pub Narrower : List Lot → List Lot → Type 0
 Narrower T U = AllZip (λ x y. (x.est ≤ y.est) × (y.lct ≤ x.lct)) T U
 
 -- U is lawful, and of the same work as T
-abbrev pub SameLaw : ℕ → List Lot → List Lot → Type 0
-SameLaw C T U = Lawful C U × SameWork T U
+abbrev pub LawfulSameWork : ℕ → List Lot → List Lot → Type 0
+LawfulSameWork C T U = Lawful C U × SameWork T U
 
 -- each schedule of T is a schedule of U
 abbrev pub Keeps : ℕ → List Lot → List Lot → Type 0
@@ -50,7 +50,7 @@ Hopeless C T = (ss : List ℕ) → Schedule C T ss → ⊥
 
 -- the four facts that a rule owes, at every lawful table
 pub record Sound (m : Meaning) : Type 0 where
-  pub lawful : (C : ℕ) (T : List Lot) → Lawful C T → Gives (m C T) (SameLaw C T)
+  pub lawful : (C : ℕ) (T : List Lot) → Lawful C T → Gives (m C T) (LawfulSameWork C T)
   pub narrows : (C : ℕ) (T : List Lot) → Lawful C T → Gives (m C T) (Narrower T)
   pub keeps : (C : ℕ) (T : List Lot) → Lawful C T → Gives (m C T) (Keeps C T)
   pub dies_rightly : (C : ℕ) (T : List Lot) → Lawful C T → Dies (m C T) (Hopeless C T)

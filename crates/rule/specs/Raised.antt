@@ -15,7 +15,7 @@ abbrev pub later_all : (ℕ → ℕ) → ℕ → List Lot → List Lot
 later_all bound k [] = []
 later_all bound k (x ∷ xs) = later (bound k) x ∷ later_all bound (suc k) xs
 
--- every run fits its window
+-- whether every run fits its window
 abbrev pub all_fit : List Lot → Bool
 all_fit [] = true
 all_fit (x ∷ xs) = nat_le (ect x) x.lct && all_fit xs

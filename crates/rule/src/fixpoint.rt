@@ -9,7 +9,7 @@ use lots::{Lot, MAX_LOTS, Refusal, Table};
 // Applies the rule until it is still or dead, and counts the applications. Dead puts back the windows from before.
 // The lots are lent to be written, so they come with the capacity and not as a `Table`.
 pub fn settle<R: Rule>(rule: &R, capacity: u16, lots: &mut [Lot]) -> Result<(Verdict, u32), Refusal>
-    ensures { Settles (R.meaning rule.now) capacity lots.old lots.new result }
+    ensures answer { Settles (R.meaning rule.now) capacity lots.old lots.new result }
 {
     Table::new(capacity, lots)?;
     // A lawful table has at most as many lots as there is room for.
@@ -37,7 +37,7 @@ pub fn settle<R: Rule>(rule: &R, capacity: u16, lots: &mut [Lot]) -> Result<(Ver
 #[cfg(test)]
 mod tests {
     use super::*;
-    use crate::{Both, Idle, Turned, raise};
+    use crate::{Both, Idle, Turned};
 
     // Field by field: a constant can call no function.
     const LOT: Lot = Lot {
@@ -70,15 +70,5 @@ mod tests {
         assert_eq!(rt; settle(&pile, 1, &mut lots), Err(Refusal::Unlawful));
         assert_eq!(rt; pile.apply(1, &mut lots), Err(Refusal::Unlawful));
         assert_eq!(rt; lots, [Lot { p: 8, ..LOT }]);
-    }
-
-    #[test]
-    fn starts_are_raised_together_or_not_at_all(rt: HostRuntime) {
-        let mut lots = [LOT, LOT, LOT];
-        assert_eq!(rt; raise(&mut lots, &[0, 2]), Verdict::Still);
-        assert_eq!(rt; raise(&mut lots, &[6, 1, 3]), Verdict::Moved);
-        assert_eq!(rt; lots, [Lot { est: 6, ..LOT }, LOT, Lot { est: 3, ..LOT }]);
-        assert_eq!(rt; raise(&mut lots, &[0, 5, 7]), Verdict::Dead);
-        assert_eq!(rt; lots, [Lot { est: 6, ..LOT }, LOT, Lot { est: 3, ..LOT }]);
     }
 }

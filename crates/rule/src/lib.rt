@@ -50,7 +50,7 @@ pub trait Rule {
     // Writes the table that the rule makes of these lots over them, or refuses a table that is not lawful.
     // The lots are lent to be written, so they and the capacity come apart and not as a `Table`.
     fn apply(&self, capacity: u16, lots: &mut [Lot]) -> Result<Verdict, Refusal>
-        ensures { Applied (meaning self.now) capacity lots.old lots.new result };
+        ensures answer { Applied (meaning self.now) capacity lots.old lots.new result };
 
     ghost sound: { (x : Self) → Sound (meaning x) };
 }

@@ -8,14 +8,14 @@ use lots::Lot;
 
 // The bound of a lot. 0 where none is given: no est is lower, so it is no bound, and needs no `Option`.
 fn bound_of(bounds: &[u16], number: usize) -> u16
-    ensures { result ≡ slice_index bounds.now number }
+    ensures answer { result ≡ slice_index bounds.now number }
 {
     bounds.get(number).copied().unwrap_or(0)
 }
 
 // Whether the run fits the window of a lot that starts at the bound or later.
 fn fits(lot: &Lot, bound: u16) -> bool
-    ensures { result ≡ nat_le (earliest_end (later bound lot.now)) lot.now.lct }
+    ensures answer { result ≡ nat_le (earliest_end (later bound lot.now)) lot.now.lct }
 {
     let later = Lot {
         est: bound.max(lot.est),
@@ -26,7 +26,7 @@ fn fits(lot: &Lot, bound: u16) -> bool
 
 // Whether every run fits its window where each lot starts at its bound or later.
 fn every_run_fits(lots: &[Lot], bounds: &[u16]) -> bool
-    ensures { result ≡ all_fit (later_all (λ j. slice_index bounds.now j) 0 lots.now) }
+    ensures answer { result ≡ all_fit (later_all (λ j. slice_index bounds.now j) 0 lots.now) }
 {
     // A loop: with a chain of `all` the time-table takes half as long again on long windows.
     for (number, lot) in lots.iter().enumerate() {
@@ -39,7 +39,7 @@ fn every_run_fits(lots: &[Lot], bounds: &[u16]) -> bool
 
 // Has each lot start at its bound or later. It is dead, and nothing moves, where a run does not fit then.
 pub fn raise(lots: &mut [Lot], bounds: &[u16]) -> Verdict
-    ensures { Answers (raised (λ j. slice_index bounds.now j) lots.old) lots.old lots.new result }
+    ensures answer { Answers (raised (λ j. slice_index bounds.now j) lots.old) lots.old lots.new result }
 {
     if !every_run_fits(lots, bounds) {
         return Verdict::Dead;
@@ -54,4 +54,27 @@ pub fn raise(lots: &mut [Lot], bounds: &[u16]) -> Verdict
         }
     }
     verdict
+}
+
+#[cfg(test)]
+mod tests {
+    use super::*;
+
+    // Field by field: a constant can call no function.
+    const LOT: Lot = Lot {
+        est: 2,
+        lct: 9,
+        p: 3,
+        c: 1,
+    };
+
+    #[test]
+    fn starts_are_raised_together_or_not_at_all(rt: HostRuntime) {
+        let mut lots = [LOT, LOT, LOT];
+        assert_eq!(rt; raise(&mut lots, &[0, 2]), Verdict::Still);
+        assert_eq!(rt; raise(&mut lots, &[6, 1, 3]), Verdict::Moved);
+        assert_eq!(rt; lots, [Lot { est: 6, ..LOT }, LOT, Lot { est: 3, ..LOT }]);
+        assert_eq!(rt; raise(&mut lots, &[0, 5, 7]), Verdict::Dead);
+        assert_eq!(rt; lots, [Lot { est: 6, ..LOT }, LOT, Lot { est: 3, ..LOT }]);
+    }
 }

@@ -13,8 +13,8 @@ pub struct Turned<X> {
 }
 
 fn turn_lot(lot: Lot) -> Lot
-    requires { InWeek lot }
-    ensures { result ≡ turned_lot lot }
+    requires in_week { InWeek lot }
+    ensures answer { result ≡ turned_lot lot }
 {
     Lot {
         est: HORIZON - lot.lct,
@@ -25,8 +25,8 @@ fn turn_lot(lot: Lot) -> Lot
 
 // Turns every lot, whether a rule moved it or not.
 fn turn(lots: &mut [Lot])
-    requires { AllByRecursion InWeek lots.old }
-    ensures { lots.new ≡ map turned_lot lots.old }
+    requires in_week { AllByRecursion InWeek lots.old }
+    ensures after { lots.new ≡ map turned_lot lots.old }
 {
     for lot in lots.iter_mut() {
         *lot = turn_lot(*lot);
@@ -49,7 +49,7 @@ impl<X: Rule> Rule for Turned<X> {
 
 // The rule turned twice, which means the rule itself.
 pub fn turned_twice<X: Rule>(rule: X) -> Turned<Turned<X>>
-    ensures { (result.rule.rule ≡ rule) × Alike (turned_round (turned_round (X.meaning rule))) (X.meaning rule) }
+    ensures alike { (result.rule.rule ≡ rule) × Alike (turned_round (turned_round (X.meaning rule))) (X.meaning rule) }
 {
     Turned {
         rule: Turned { rule },

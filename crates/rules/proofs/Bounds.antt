@@ -7,9 +7,9 @@ use Rattle.elastic.specs.Profile.{has}
 use Rattle.elastic.proofs.Keys.{key_has}
 use Rattle.rule.specs.Raised.{raise}
 use Rattle.rules.specs.Chosen.{chosen, overfull}
-use Rattle.rules.specs.Cuts.{ends_of, cut_ends, CutsOf}
+use Rattle.rules.specs.Ends.{ends_of, end_minutes, DistinctEnds}
 use Rattle.rules.specs.NotFirst.{in_cut, cut, least_ect, with_stand_in, bound_by, greatest_bound, end_bound, greatest_end_bound, not_first}
-use Rattle.rules.specs.declared.cuts.Cut.{Cut}
+use Rattle.rules.specs.declared.ends.End.{End}
 use Rattle.rules.proofs.Raised.{raise_same}
 
 -- which numbers f the chosen lots have
@@ -104,7 +104,7 @@ module _ (C : ℕ) (T : List Lot) (i : ℕ) where
   pub greatest_by_ends : (ts : List ℕ) → ((t : ℕ) → has t ts ≡ has t (ends_of T)) → greatest_end_bound C T i ts ≡ greatest_bound C T i (length T)
   greatest_by_ends ts same = omega (arith, ends_most ts, lots_most ts same (length T) (omega arith))
 
--- so the bounds that the cuts put are those of the rule
-pub not_first_by_cuts : (C : ℕ) (T : List Lot) (cs : List Cut) (bounds : List ℕ) → CutsOf T cs → ((i : ℕ) → i < length T → get_or bounds i 0 ≡ greatest_end_bound C T i (cut_ends cs)) → not_first C T ≡ raise (λ j. get_or bounds j 0) T
-not_first_by_cuts C T cs bounds is told =
-    raise_same (λ i. greatest_bound C T i (length T)) (λ j. get_or bounds j 0) T (λ i h. sym (told i h ∙ greatest_by_ends C T i (cut_ends cs) is.ends))
+-- so the bounds that the distinct ends put are those of the rule
+pub not_first_by_ends : (C : ℕ) (T : List Lot) (es : List End) (bounds : List ℕ) → DistinctEnds T es → ((i : ℕ) → i < length T → get_or bounds i 0 ≡ greatest_end_bound C T i (end_minutes es)) → not_first C T ≡ raise (λ j. get_or bounds j 0) T
+not_first_by_ends C T es bounds is told =
+    raise_same (λ i. greatest_bound C T i (length T)) (λ j. get_or bounds j 0) T (λ i h. sym (told i h ∙ greatest_by_ends C T i (end_minutes es) is.ends))

@@ -1,31 +1,23 @@
 -- A cut that grows with its latest end, as marks of its lots.
-use Rattle.std.proofs.Common.{◌≡◌, ℕ, suc, ◌+◌, ◌<◌, ◌≤◌, min, max, Bool, true, false, cond, not, ◌&&◌, ◌||◌, eqb, ltb, leb, List, [], ◌∷◌, ◌++◌, length, get_or, take, sym, refl, ap, ap₂, ◌∙◌, subst, inl, inr, add-one, add-zero, arith}
-use Rattle.std.specs.Cmp.{nat_cmp_total}
-use Rattle.std.specs.List.{list_any, enumerate_from}
-use Rattle.std.proofs.lemmas.List.{map_more}
-use Rattle.std.proofs.lemmas.Bool.{cases_Bool, cases_eq, and_parts, and_from, or_right, eq-eqb, ne_eqb, leb-true, le-leb, lt-ltb, le-ltb, both_ways}
+use Rattle.std.proofs.Common.{◌≡◌, ℕ, zero, suc, ◌+◌, ◌<◌, ◌≤◌, min, max, Bool, true, false, cond, not, ◌&&◌, ◌||◌, eqb, ltb, leb, List, [], ◌∷◌, ◌++◌, length, get_or, take, sym, refl, ap, ap₂, ◌∙◌, subst, inl, inr, add-one, add-zero, arith}
+use Rattle.std.proofs.lemmas.List.{map_more, map-append, append-nil}
+use Rattle.std.proofs.ByRecursion.{All-get_or}
+use Rattle.std.proofs.Math.Bool.{and-true, and-false, or-false}
+use Rattle.std.proofs.lemmas.Bool.Decides.{nat_tests}
+use Rattle.std.proofs.lemmas.Bool.{cases_eq, cases_lt, and_from, and_left, or_left, or_right, eq-eqb, ne_eqb, lt-ltb, le-ltb}
 use Rattle.lots.specs.Tables.{ect, lot_at}
 use Rattle.lots.specs.declared.Lot.{Lot}
 use Rattle.elastic.specs.Parts.{those, kept}
 use Rattle.elastic.specs.Profile.{has, overflow}
-use Rattle.elastic.specs.Rows.{Ascending}
+use Rattle.elastic.proofs.Counts.{has_push}
+use Rattle.elastic.proofs.Keys.{key_place, key_has}
 use Rattle.elastic.proofs.Walks.{rank_less}
 use Rattle.rules.specs.Chosen.{chosen, overfull}
-use Rattle.rules.specs.Cuts.{ends_of, cut_ends, cut_at}
-use Rattle.rules.specs.GrowingCuts.{Inside, Marks}
+use Rattle.rules.specs.Ends.{ends_of, end_minutes, Lowest, DistinctEnds}
+use Rattle.rules.specs.GrowingCuts.{Marks, MarksBefore}
 use Rattle.rules.specs.NotFirst.{in_cut, cut, least_ect, with_stand_in, end_bound, greatest_end_bound}
-use Rattle.rules.specs.declared.cuts.Cut.{Cut}
-
--- whether some chosen lot has the end t
-ends_cond : (b : Bool) (t : ℕ) (x : Lot) (xs : List Lot) → ((eqb t x.lct && b) || has t (ends_of xs)) ≡ has t (ends_of (cond b (x ∷ xs) xs))
-ends_cond true t x xs = ap (λ e. e || has t (ends_of xs)) (elim (eqb t x.lct) as (λ e. (e && true) ≡ e) [ true ↦ refl | false ↦ refl ])
-ends_cond false t x xs = ap (λ e. e || has t (ends_of xs)) (elim (eqb t x.lct) as (λ e. (e && false) ≡ false) [ true ↦ refl | false ↦ refl ])
-
-pub any_ends : (test : ℕ → Lot → Bool) (t k : ℕ) (T : List Lot) → list_any (λ (p : ℕ × Lot). eqb t p.1.lct && test p.0 p.1) (enumerate_from k T) ≡ has t (ends_of (chosen test k T))
-any_ends test t k [] = refl
-any_ends test t k (x ∷ xs) =
-    let rest = any_ends test t (k + 1) xs ∙ ap (λ n. has t (ends_of (chosen test n xs))) (add-one k) in
-    ap (λ b. (eqb t x.lct && test k x) || b) rest ∙ ends_cond (test k x) t x (chosen test (suc k) xs)
+use Rattle.rules.specs.declared.ends.End.{End}
+use Rattle.rules.specs.Laws.ChosenLots.{chosen_more}
 
 -- the lots that are marked, where the marks are the answers of a test
 pub those_chosen : (test : ℕ → Lot → Bool) (k : ℕ) (bs : List Bool) (T : List Lot) → ((j : ℕ) → j < length T → get_or bs j false ≡ test (k + j) (lot_at T j)) → those bs T ≡ chosen test k T
@@ -47,58 +39,129 @@ marked_cut T i t bs h = those_chosen (in_cut i (lot_at T i).est t) 0 bs T (λ j 
 pub left_beside : (C : ℕ) (T : List Lot) (i t : ℕ) (bs : List Bool) → Marks T i t bs → (m : ℕ) → m ≡ min (ect (lot_at T i)) t → (left : ℕ) → left ≡ overflow C (those bs T ++ kept (lot_at T i).c m (those bs T)) → left ≡ overflow C (with_stand_in T i t)
 left_beside C T i t bs h m e left is = is ∙ ap₂ (λ Ω n. overflow C (Ω ++ kept (lot_at T i).c n Ω)) (marked_cut T i t bs h) e
 
-pub none_marked : (T : List Lot) (i t : ℕ) (bs : List Bool) → ((k : ℕ) → get_or bs k false ≡ false) → Inside T i t bs
-none_marked T i t bs none k h e = absurd (both_ways _ (none k) e)
+-- whether a lot has the end t, one lot more
+module _ (test : ℕ → Lot → Bool) (t : ℕ) where
+  ends_cond : (b : Bool) (x : Lot) (xs : List Lot) → has t (ends_of (xs ++ cond b (x ∷ []) [])) ≡ ((eqb t x.lct && b) || has t (ends_of xs))
+  ends_cond true x xs =
+      ap (has t) (map-append (λ (y : Lot). y.lct) xs (x ∷ [])) ∙ has_push t x.lct (ends_of xs) ∙ ap (λ b. b || has t (ends_of xs)) (sym (and-true (eqb t x.lct)))
+  ends_cond false x xs = ap (λ ys. has t (ends_of ys)) (append-nil xs) ∙ ap (λ b. b || has t (ends_of xs)) (sym (and-false (eqb t x.lct)))
 
--- what is in the cut up to t is in that up to a later end
-in_later : (i e t u k : ℕ) (x : Lot) → t ≤ u → in_cut i e t k x ≡ true → in_cut i e u k x ≡ true
-in_later i e t u k x h g =
-    let first = and_parts (not (eqb k i)) (ltb e (ect x) && leb x.lct t) g in
-    let second = and_parts (ltb e (ect x)) (leb x.lct t) first.1 in
-    and_from (not (eqb k i)) (ltb e (ect x) && leb x.lct u) first.0
-    (and_from (ltb e (ect x)) (leb x.lct u) second.0 (le-leb x.lct u (omega (arith, h, leb-true x.lct t second.1))))
+  module _ (T : List Lot) (n : ℕ) (h : n < length T) where
+    ends_more : has t (ends_of (chosen test 0 (take (n + 1) T))) ≡ ((eqb t (lot_at T n).lct && test n (lot_at T n)) || has t (ends_of (chosen test 0 (take n T))))
+    ends_more = ap (λ xs. has t (ends_of xs)) (chosen_more test T n h) ∙ ends_cond (test n (lot_at T n)) (lot_at T n) (chosen test 0 (take n T))
 
-pub inside_later : (T : List Lot) (i t u : ℕ) (bs : List Bool) → t ≤ u → Inside T i t bs → Inside T i u bs
-inside_later T i t u bs h inside k l e = in_later i (lot_at T i).est t u k (lot_at T k) h (inside k l e)
+    pub end_comes : (eqb t (lot_at T n).lct && test n (lot_at T n)) ≡ true → has t (ends_of (chosen test 0 (take (n + 1) T))) ≡ true
+    end_comes here = ends_more ∙ or_left _ _ here
 
-or_none : (b : Bool) → (b || false) ≡ b
-or_none true = refl
-or_none false = refl
+    pub end_stays : (eqb t (lot_at T n).lct && test n (lot_at T n)) ≡ false → has t (ends_of (chosen test 0 (take (n + 1) T))) ≡ has t (ends_of (chosen test 0 (take n T)))
+    end_stays out = ends_more ∙ ap (λ b. b || has t (ends_of (chosen test 0 (take n T)))) out
 
--- the first n lots are marked where they are in the cut
-abbrev pub Marked : List Lot → ℕ → ℕ → ℕ → List Bool → Type 0
-Marked T i t n bs = (k : ℕ) → k < n → k < length T → get_or bs k false ≡ in_cut i (lot_at T i).est t k (lot_at T k)
+-- the marks after the lots before n were asked, those of a later number being marked where they are in the cut before t
+pub record Growing (T : List Lot) (i t n : ℕ) (bs : List Bool) : Type 0 where
+  pub so_far : (k : ℕ) → k < n → k < length T → get_or bs k false ≡ in_cut i (lot_at T i).est t k (lot_at T k)
+  pub to_come : (k : ℕ) → n ≤ k → k < length T → get_or bs k false ≡ (in_cut i (lot_at T i).est t k (lot_at T k) && ltb (lot_at T k).lct t)
 
-module _ (T : List Lot) (i t n : ℕ) (bs : List Bool) (inside : Inside T i t bs) (so_far : Marked T i t n bs) where
-  module _ (bs' : List Bool) (l : ℕ) (is : (k : ℕ) → get_or bs' k false ≡ (get_or bs k false || (eqb k n && ltb n l))) (here : n < l) (comes : in_cut i (lot_at T i).est t n (lot_at T n) ≡ true) where
-    at_n : get_or bs' n false ≡ true
-    at_n = is n ∙ or_right (get_or bs n false) (eqb n n && ltb n l) (and_from (eqb n n) (ltb n l) (eq-eqb n n refl) (lt-ltb n l here))
+-- a lot whose end is another, or that is not in the cut, is in the cut before t where it is in the cut
+asked : (a b : Bool) (m t : ℕ) → (eqb t m && (a && (b && leb m t))) ≡ false → ((a && (b && leb m t)) && ltb m t) ≡ (a && (b && leb m t))
+asked false b m t out = refl
+asked true false m t out = refl
+asked true true m t out = grind (arith, nat_tests)
 
+module _ (T : List Lot) (i t n : ℕ) (bs : List Bool) (g : Growing T i t n bs) where
+  abbrev comes : ℕ → Bool
+  comes k = in_cut i (lot_at T i).est t k (lot_at T k)
+
+  module _ (bs' : List Bool) (l : ℕ) (is : (k : ℕ) → get_or bs' k false ≡ (get_or bs k false || (eqb k n && ltb n l))) where
     at_other : (k : ℕ) → (k ≡ n → ⊥) → get_or bs' k false ≡ get_or bs k false
-    at_other k ne = is k ∙ ap (λ b. get_or bs k false || (b && ltb n l)) (ne_eqb k n ne) ∙ or_none (get_or bs k false)
+    at_other k ne = is k ∙ ap (λ b. get_or bs k false || (b && ltb n l)) (ne_eqb k n ne) ∙ or-false (get_or bs k false)
 
-    pub one_more_inside : Inside T i t bs'
-    one_more_inside k h e = elim (cases_eq k n) [
-      | inl same ↦ subst (λ m. in_cut i (lot_at T i).est t m (lot_at T m) ≡ true) (sym same) comes
-      | inr ne ↦ inside k h (sym (at_other k ne) ∙ e)
-    ]
+    pub growing_added : n < l → comes n ≡ true → Growing T i t (n + 1) bs'
+    growing_added here passed = record {
+      so_far = λ k low h. elim (cases_eq k n) [
+        | inl same ↦
+            let at_n = is n ∙ or_right (get_or bs n false) (eqb n n && ltb n l) (and_from (eqb n n) (ltb n l) (eq-eqb n n refl) (lt-ltb n l here)) in
+            subst (λ m. get_or bs' m false ≡ comes m) (sym same) (at_n ∙ sym passed)
+        | inr ne ↦ at_other k ne ∙ g.so_far k (omega arith) h
+      ];
+      to_come = λ k late h. at_other k (λ e. omega (arith, e, late)) ∙ g.to_come k (omega arith) h;
+    }
 
-    pub one_more_marked : Marked T i t (n + 1) bs'
-    one_more_marked k l h = elim (cases_eq k n) [
-      | inl same ↦ subst (λ m. get_or bs' m false ≡ in_cut i (lot_at T i).est t m (lot_at T m)) (sym same) (at_n ∙ sym comes)
-      | inr ne ↦ at_other k ne ∙ so_far k (omega arith) h
-    ]
+  pub growing_skipped : (eqb t (lot_at T n).lct && comes n) ≡ false → Growing T i t (n + 1) bs
+  growing_skipped out = record {
+    so_far = λ k low h. elim (cases_eq k n) [
+      | inl same ↦
+          let at_n = λ (h : n < length T). g.to_come n (omega arith) h ∙ asked (not (eqb n i)) (ltb (lot_at T i).est (ect (lot_at T n))) (lot_at T n).lct t out in
+          subst (λ m. get_or bs m false ≡ comes m) (sym same) (at_n (subst (λ m. m < length T) same h))
+      | inr ne ↦ g.so_far k (omega arith) h
+    ];
+    to_come = λ k late h. g.to_come k (omega arith) h;
+  }
 
-  pub same_marked : in_cut i (lot_at T i).est t n (lot_at T n) ≡ false → Marked T i t (n + 1) bs
-  same_marked out k l h = elim (cases_eq k n) [
-    | inl same ↦
-        let none : get_or bs n false ≡ false = elim (cases_Bool (get_or bs n false)) [
-          | inl e ↦ absurd (both_ways _ out (inside n (subst (λ m. m < length T) same h) e))
-          | inr e ↦ e
-        ] in
-        subst (λ m. get_or bs m false ≡ in_cut i (lot_at T i).est t m (lot_at T m)) (sym same) (none ∙ sym out)
-    | inr ne ↦ so_far k (omega arith) h
+-- no lot before the lowest one has its end
+module _ (T : List Lot) (i : ℕ) (x : End) (low : Lowest T x) where
+  pub growing_from : (bs : List Bool) → MarksBefore T i x.lct bs → Growing T i x.lct x.lot bs
+  growing_from bs before = record {
+    so_far = λ k l h. before k h ∙ asked (not (eqb k i)) (ltb (lot_at T i).est (ect (lot_at T k))) (lot_at T k).lct x.lct (and_left (eqb x.lct (lot_at T k).lct) _ (ne_eqb x.lct (lot_at T k).lct (λ e. low.lowest k l (sym e))));
+    to_come = λ k l h. before k h;
+  }
+
+  pub no_end_yet : (test : ℕ → Lot → Bool) (n : ℕ) → n ≤ x.lot → has x.lct (ends_of (chosen test 0 (take n T))) ≡ false
+  no_end_yet test zero h = refl
+  no_end_yet test (suc n) h =
+      let out = and_left (eqb x.lct (lot_at T n).lct) (test n (lot_at T n)) (ne_eqb x.lct (lot_at T n).lct (λ e. low.lowest n (omega arith) (sym e))) in
+      ap (λ m. has x.lct (ends_of (chosen test 0 (take m T)))) (sym (add-one n)) ∙ end_stays test x.lct T n (omega (arith, low.is_lot)) out ∙ no_end_yet test n (omega arith)
+
+-- between two ends that follow each other no lot must be out
+before_later : (a b : Bool) (m t u : ℕ) → t < u → (t < m → u ≤ m) → ((a && (b && leb m u)) && ltb m u) ≡ (a && (b && leb m t))
+before_later false b m t u h next = refl
+before_later true false m t u h next = refl
+before_later true true m t u h next = elim (cases_lt t m) [
+  | inl late ↦ let past = next late in grind (arith, nat_tests)
+  | inr soon ↦ grind (arith, nat_tests)
+]
+
+before_none : (a b : Bool) (m u : ℕ) → u ≤ m → ((a && (b && leb m u)) && ltb m u) ≡ false
+before_none false b m u h = refl
+before_none true false m u h = refl
+before_none true true m u h = grind (arith, nat_tests)
+
+abbrev pub end_at : List End → ℕ → End
+end_at es i = get_or es i (record { lct = 0; lot = 0 })
+
+module _ (T : List Lot) (i : ℕ) (es : List End) (is : DistinctEnds T es) where
+  end_rises : (n j : ℕ) → n < j → j < length es → (end_at es n).lct < (end_at es j).lct
+  end_rises n j h l = rank_less (end_at es n).lct (end_at es j).lct (is.rising n j _ h l)
+
+  no_earlier : (n j : ℕ) → n ≤ j → j < length es → (end_at es n).lct ≤ (end_at es j).lct
+  no_earlier n j h l = elim (cases_eq n j) [
+    | inl e ↦ omega (arith, ap (λ m. (end_at es m).lct) e)
+    | inr ne ↦ omega (arith, end_rises n j (omega arith) l)
   ]
+
+  pub lowest_at : (n : ℕ) → n < length es → Lowest T (end_at es n)
+  lowest_at n h = All-get_or (Lowest T) es n _ h is.each
+
+  -- each lot has its latest end among them
+  end_place : (k : ℕ) → k < length T → (j : ℕ) × (j < length es) × ((end_at es j).lct ≡ (lot_at T k).lct)
+  end_place k h =
+      let known = key_has (λ (x : Lot). x.lct) T k (lot_at T k).lct _ h refl in
+      let r = key_place (λ (x : End). x.lct) es (lot_at T k).lct (is.ends (lot_at T k).lct ∙ known) in
+      (r.0, r.1, r.2 _)
+
+  pub before_first : (bs : List Bool) → 0 < length es → ((k : ℕ) → get_or bs k false ≡ false) → MarksBefore T i (end_at es 0).lct bs
+  before_first bs some none k h =
+      let place = end_place k h in
+      let late : (end_at es 0).lct ≤ (lot_at T k).lct = omega (arith, no_earlier 0 place.0 (omega arith) place.1, place.2) in
+      none k ∙ sym (before_none (not (eqb k i)) (ltb (lot_at T i).est (ect (lot_at T k))) (lot_at T k).lct (end_at es 0).lct late)
+
+  pub before_next : (bs : List Bool) (n : ℕ) → n + 1 < length es → Marks T i (end_at es n).lct bs → MarksBefore T i (end_at es (n + 1)).lct bs
+  before_next bs n h marks k l =
+      let place = end_place k l in
+      let next : (end_at es n).lct < (lot_at T k).lct → (end_at es (n + 1)).lct ≤ (lot_at T k).lct = λ late. elim (cases_lt n place.0) [
+        | inl after ↦ omega (arith, no_earlier (n + 1) place.0 (omega arith) place.1, place.2)
+        | inr by ↦ absurd (omega (arith, no_earlier place.0 n by (omega arith), place.2, late))
+      ] in
+      marks k l ∙ sym (before_later (not (eqb k i)) (ltb (lot_at T i).est (ect (lot_at T k))) (lot_at T k).lct (end_at es n).lct (end_at es (n + 1)).lct (end_rises n (n + 1) (omega arith) h) next)
 
 -- the bound that an end puts
 module _ (C : ℕ) (T : List Lot) (i t : ℕ) where
@@ -120,11 +183,8 @@ module _ (C : ℕ) (T : List Lot) (i t : ℕ) where
   greatest_push [] = omega arith
   greatest_push (u ∷ us) = omega (arith, greatest_push us)
 
-module _ (C : ℕ) (T : List Lot) (i : ℕ) (cs : List Cut) where
-  pub greatest_more : (n : ℕ) → n < length cs → greatest_end_bound C T i (cut_ends (take (n + 1) cs)) ≡ max (greatest_end_bound C T i (cut_ends (take n cs))) (end_bound C T i (cut_at cs n).lct)
+module _ (C : ℕ) (T : List Lot) (i : ℕ) (es : List End) where
+  pub greatest_more : (n : ℕ) → n < length es → greatest_end_bound C T i (end_minutes (take (n + 1) es)) ≡ max (greatest_end_bound C T i (end_minutes (take n es))) (end_bound C T i (end_at es n).lct)
   greatest_more n h =
-      ap (greatest_end_bound C T i) (map_more (λ (x : Cut). x.lct) cs n _ h)
-      ∙ greatest_push C T i (cut_at cs n).lct (cut_ends (take n cs))
-
-pub end_rises : (cs : List Cut) → Ascending nat_cmp_total (λ (x : Cut). x.lct) cs → (i j : ℕ) → i < j → j < length cs → (cut_at cs i).lct ≤ (cut_at cs j).lct
-end_rises cs up i j h l = omega (arith, rank_less (cut_at cs i).lct (cut_at cs j).lct (up i j (record { lct = 0; lot = 0 }) h l))
+      ap (greatest_end_bound C T i) (map_more (λ (x : End). x.lct) es n _ h)
+      ∙ greatest_push C T i (end_at es n).lct (end_minutes (take n es))

@@ -1,5 +1,5 @@
-pub mod CutRows
-pub mod Chains
+pub mod EndRows
+pub mod Least
 pub mod Loads
 pub mod Raised
 pub mod Bounds

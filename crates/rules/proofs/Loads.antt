@@ -7,19 +7,19 @@ use Rattle.std.proofs.lemmas.Bool.{cases_order, cond-true, cond-false, lt-ltb, l
 use Rattle.std.proofs.lemmas.Bool.Decides.{nat_tests}
 use Rattle.std.proofs.lemmas.List.Recursion.{is_sum_by}
 use Rattle.std.proofs.lemmas.List.Sums.{sum_by_more, sum_by-take-le}
-use Rattle.lots.proofs.Tables.{lawful_under_most}
 use Rattle.lots.specs.Limits.{horizon, max_capacity, max_lots}
 use Rattle.lots.specs.Tables.{ect, lot_at, LawfulLot, Lawful}
 use Rattle.lots.specs.declared.Lot.{Lot}
 use Rattle.lots.specs.declared.table.Table.{Table}
+use Rattle.lots.proofs.Tables.{lawful_under_most}
 use Rattle.rule.specs.Meanings.{Applied, dead}
 use Rattle.rule.specs.Raised.{raise, Answers}
 use Rattle.rule.specs.declared.Verdict.{Verdict}
 use Rattle.rule.specs.declared.Verdict.TheVariants.{Dead}
 use Rattle.rules.specs.TimeTable.{fixed, fixed_load, fixed_others, some_below, after_last, blocked_under, bound_of, time_table}
+use Rattle.rules.specs.declared.time_table.Loads.{Loads}
 use Rattle.rules.specs.Laws.FixedParts.{fixed_split}
 use Rattle.rules.specs.Laws.Searches.{some_none, some_here, after_last_none, after_last_same}
-use Rattle.rules.specs.declared.time_table.Loads.{Loads}
 use Rattle.rules.proofs.Raised.{raise_same, applied_from_answers}
 
 -- the load is a sum over the lots

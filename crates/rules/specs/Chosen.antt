@@ -1,8 +1,8 @@
 -- Some of the lots of a table, by a test of their number and themselves.
 use Rattle.std.specs.Prelude.{ℕ, suc, Bool, cond, List, [], ◌∷◌, nat_lt, ◌≡◌}
+use Rattle.std.specs.Borrow.{Bor}
 use Rattle.lots.specs.declared.Lot.{Lot}
 use Rattle.elastic.specs.Profile.{overflow}
-use Rattle.std.specs.Borrow.{Bor}
 
 -- those of which the test holds, in their order; the first has the number k
 abbrev pub chosen : (ℕ → Lot → Bool) → ℕ → List Lot → List Lot
@@ -12,6 +12,6 @@ chosen test k (x ∷ xs) = cond (test k x) (x ∷ chosen test (suc k) xs) (chose
 abbrev pub overfull : ℕ → List Lot → Bool
 overfull C Ω = nat_lt 0 (overflow C Ω)
 
--- each answer that a test may give is that of p
+-- whatever the test answers is what p answers
 abbrev pub Tests : (ℕ → Bor Lot → Bool → Type 0) → (ℕ → Lot → Bool) → Type 0
 Tests gives p = (k : ℕ) (x : Bor Lot) (b : Bool) → gives k x b → b ≡ p k x.now

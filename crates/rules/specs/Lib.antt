@@ -1,5 +1,5 @@
 pub mod Chosen
-pub mod Cuts
+pub mod Ends
 pub mod Overload
 pub mod TimeTable
 pub mod NotFirst

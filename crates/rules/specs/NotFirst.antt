@@ -1,12 +1,13 @@
 -- A lot that cannot start before some others have ended.
-use Rattle.std.specs.Prelude.{ℕ, zero, suc, ◌-◌, min, max, Bool, cond, not, ◌&&◌, List, [], ◌∷◌, ◌++◌, length, ◌==◌, nat_le, nat_lt}
+use Rattle.std.specs.Prelude.{ℕ, zero, suc, min, max, Bool, cond, not, ◌&&◌, List, [], ◌∷◌, ◌++◌, length, ◌==◌, nat_le, nat_lt}
 use Rattle.lots.specs.Tables.{ect, lot_at}
 use Rattle.lots.specs.declared.Lot.{Lot}
-use Rattle.elastic.specs.Profile.{earliest, has}
+use Rattle.elastic.specs.Parts.{kept}
+use Rattle.elastic.specs.Profile.{has}
 use Rattle.rule.specs.Meanings.{Meaning}
 use Rattle.rule.specs.Raised.{raise}
 use Rattle.rules.specs.Chosen.{chosen, overfull}
-use Rattle.rules.specs.Cuts.{ends_of}
+use Rattle.rules.specs.Ends.{ends_of}
 
 -- the lot x of the number k is not i, cannot be out by the est e of i, and must be out by the minute t
 abbrev pub in_cut : ℕ → ℕ → ℕ → ℕ → Lot → Bool
@@ -22,13 +23,10 @@ least_ect [] = 0
 least_ect (x ∷ []) = ect x
 least_ect (x ∷ (y ∷ ys)) = min (ect x) (least_ect (y ∷ ys))
 
--- what stands in for the lot x beside Ω: its trays from the earliest est of Ω up to m, where that is later
-abbrev pub stand_in : Lot → ℕ → List Lot → List Lot
-stand_in x m Ω = cond (nat_le m (earliest Ω)) [] (record { est = earliest Ω; lct = m; p = m - earliest Ω; c = x.c } ∷ [])
-
--- the cut up to t, with what stands in for i
+-- the cut up to t, with what stands in for i: a run that keeps its trays from the earliest est of the cut until its ect,
+-- or until t where that is earlier
 abbrev pub with_stand_in : List Lot → ℕ → ℕ → List Lot
-with_stand_in T i t = cut T i t ++ stand_in (lot_at T i) (min (ect (lot_at T i)) t) (cut T i t)
+with_stand_in T i t = cut T i t ++ kept (lot_at T i).c (min (ect (lot_at T i)) t) (cut T i t)
 
 -- the bound that the lot j puts on the est of i, 0 where it puts none
 abbrev pub bound_by : ℕ → List Lot → ℕ → ℕ → ℕ

@@ -3,7 +3,7 @@ use Rattle.std.specs.Prelude.{ℕ, Bool, false, cond, ◌||◌, List, [], ◌∷
 use Rattle.lots.specs.declared.Lot.{Lot}
 use Rattle.rule.specs.Meanings.{Meaning, dead, to}
 use Rattle.rules.specs.Chosen.{chosen, overfull}
-use Rattle.rules.specs.Cuts.{ends_of}
+use Rattle.rules.specs.Ends.{ends_of}
 
 -- the lots that must be out by the minute t
 abbrev pub due : ℕ → List Lot → List Lot
@@ -14,6 +14,6 @@ abbrev pub some_overfull : ℕ → List Lot → List ℕ → Bool
 some_overfull C T [] = false
 some_overfull C T (t ∷ ts) = overfull C (due t T) || some_overfull C T ts
 
--- dead where that holds of the latest end of some lot
+-- dead where that holds of the latest end of some lot; else the table stays as it is
 abbrev pub overload : Meaning
 overload C T = cond (some_overfull C T (ends_of T)) dead (to T)

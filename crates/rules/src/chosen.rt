@@ -12,8 +12,8 @@ pub(crate) fn chosen<F: Fn(usize, &Lot) -> bool>(
     table: Table<'_>,
     test: F,
 ) -> ArrayVec<Lot, MAX_LOTS>
-    requires { F.IsAlwaysCallable test }
-    ensures { (p : ℕ → AnyLot → Bool) → Tests (F.post test) p → result.items ≡ those_of p 0 table.entry.lots.now }
+    requires callable { F.IsAlwaysCallable test }
+    ensures answer { (p : ℕ → AnyLot → Bool) → Tests (F.post test) p → result.items ≡ those_of p 0 table.entry.lots.now }
 {
     let mut chosen = ArrayVec::new();
     // A loop: `from_iter` asks for an allocator, and `extend` gives a `Result`, though the lots of a table always fit.
@@ -27,7 +27,7 @@ pub(crate) fn chosen<F: Fn(usize, &Lot) -> bool>(
 
 // Whether some work is left over.
 pub(crate) fn is_overfull(table: Table<'_>) -> bool
-    ensures { result ≡ more_than_fits table.entry.capacity table.entry.lots.now }
+    ensures answer { result ≡ more_than_fits table.entry.capacity table.entry.lots.now }
 {
     let (left, _points) = overflow_of(table);
     left > 0

@@ -21,7 +21,7 @@ pub struct House {
 
 // The house pile.
 pub fn house_pile() -> House
-    ensures { ⟦<House as Rule>⟧.meaning result ≡ the_house }
+    ensures house { ⟦<House as Rule>⟧.meaning result ≡ the_house }
 {
     House {
         pile: Pile::default(),

@@ -2,7 +2,7 @@
 #![tactic(auto)]
 
 mod chosen;
-mod cuts;
+mod ends;
 mod house;
 mod not_first;
 mod overload;

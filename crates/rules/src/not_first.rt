@@ -1,24 +1,22 @@
 // Raises the earliest start of a lot that cannot start before some others have ended.
-ghost use Rattle.std.specs.Cmp.{nat_cmp_total};
 ghost use Rattle.std.specs.Prelude.{◌≡◌, ℕ, ◌<◌, length, slice_index};
 ghost use Rattle.lots.specs.Tables.{lot_at};
 ghost use Rattle.elastic.specs.Profile.{has};
-ghost use Rattle.elastic.specs.Rows.{Ascending};
-ghost use Rattle.rules.specs.Cuts.{ends_of, cut_ends};
+ghost use Rattle.rules.specs.Ends.{ends_of, end_minutes, Lowest, DistinctEnds};
 ghost use Rattle.rules.specs.NotFirst.{in_cut, cut as the_cut, least_ect, end_bound, greatest_end_bound, not_first as starts_after_some};
-ghost use Rattle.rules.specs.GrowingCuts.{Inside, Marks};
+ghost use Rattle.rules.specs.GrowingCuts.{Marks, MarksBefore};
 ghost use Rattle.rules.specs.Laws.NotFirstSound.{not_first_sound};
 
 use crate::chosen::chosen;
-use crate::cuts::{Cut, cuts_of};
+use crate::ends::{End, distinct_ends};
 use arrayvec::ArrayVec;
-use elastic::{ArrayRow, Profile};
+use elastic::Profile;
 use lots::{Lot, MAX_LOTS, Refusal, Table};
 use rule::{Rule, Verdict, raise};
 
 // The least ect, and 0 without lots, as it is defined.
 fn least_end(lots: &[Lot]) -> u32
-    ensures { result ≡ least_ect lots.now }
+    ensures answer { result ≡ least_ect lots.now }
 {
     lots.iter().map(|lot| lot.ect()).min().unwrap_or(0)
 }
@@ -33,21 +31,21 @@ struct Candidate<'a> {
 
 impl Candidate<'_> {
     fn lot(self) -> Lot
-        ensures { result ≡ lot_at self.entry.table.lots.now self.entry.number }
+        ensures answer { result ≡ lot_at self.entry.table.lots.now self.entry.number }
     {
         self.table.lots[self.number]
     }
 
     // Whether the lot of a number is another, cannot be out by the est of this one, and must be out by a minute.
     fn is_in_cut(self, number: usize, lot: &Lot, minute: u16) -> bool
-        ensures { result ≡ in_cut self.entry.number (lot_at self.entry.table.lots.now self.entry.number).est minute number lot.now }
+        ensures answer { result ≡ in_cut self.entry.number (lot_at self.entry.table.lots.now self.entry.number).est minute number lot.now }
     {
         number != self.number && u32::from(self.lot().est) < lot.ect() && lot.lct <= minute
     }
 
     // The lots of which that holds.
     fn cut(self, minute: u16) -> ArrayVec<Lot, MAX_LOTS>
-        ensures { result.items ≡ the_cut self.entry.table.lots.now self.entry.number minute }
+        ensures answer { result.items ≡ the_cut self.entry.table.lots.now self.entry.number minute }
     {
         chosen(
             self.table,
@@ -55,73 +53,73 @@ impl Candidate<'_> {
         )
     }
 
-    // Whether one of them must be out by that very minute.
-    fn ends_at(self, minute: u16) -> bool
-        ensures { result ≡ has minute (ends_of (the_cut self.entry.table.lots.now self.entry.number minute)) }
-    {
-        self.table.lots.iter().enumerate().any(|(number, lot)| minute == lot.lct
-            && self.is_in_cut(number, lot, minute))
-    }
-
-    // Adds the others of them to the profile of some.
-    fn grow(self, profile: &mut Profile<'_>, minute: u16)
+    // Adds the lots of the cut that have a latest end, and answers whether there are any. The cut also has lots of earlier
+    // ends, which were added at these; and no lot has this end before the lowest, so the search for them begins there.
+    fn grow(self, profile: &mut Profile<'_>, end: End) -> bool
         requires table { profile.old.table ≡ self.table }
-        requires inside { Inside self.table.lots.now self.number minute profile.old.added }
+        requires lowest { Lowest self.table.lots.now end }
+        requires before { MarksBefore self.table.lots.now self.number end.lct profile.old.added }
         ensures table { profile.new.table ≡ self.entry.table }
-        ensures cut { Marks self.entry.table.lots.now self.entry.number minute profile.new.added }
+        ensures cut { Marks self.entry.table.lots.now self.entry.number end.lct profile.new.added }
+        ensures grown { result ≡ has end.lct (ends_of (the_cut self.entry.table.lots.now self.entry.number end.lct)) }
     {
-        for (number, lot) in self.table.lots.iter().enumerate() {
-            if self.is_in_cut(number, lot, minute) {
+        let lots = self.table.lots;
+        let mut grown = false;
+        for number in end.lot..lots.len() {
+            let lot = &lots[number];
+            if lot.lct == end.lct && self.is_in_cut(number, lot, end.lct) {
                 profile.add(number);
+                grown = true;
             }
         }
+        grown
     }
 
     // The bound that a latest end puts on its est. 0 where it puts none, which is no bound, and so no `Option`.
-    fn bound_at(self, profile: &mut Profile<'_>, minute: u16) -> u16
+    fn bound_at(self, profile: &mut Profile<'_>, end: End) -> u16
         requires table { profile.old.table ≡ self.table }
-        requires inside { Inside self.table.lots.now self.number minute profile.old.added }
+        requires lowest { Lowest self.table.lots.now end }
+        requires before { MarksBefore self.table.lots.now self.number end.lct profile.old.added }
         ensures table { profile.new.table ≡ self.entry.table }
-        ensures inside { Inside self.entry.table.lots.now self.entry.number minute profile.new.added }
-        ensures bound { result ≡ end_bound self.entry.table.capacity self.entry.table.lots.now self.entry.number minute }
+        ensures cut { Marks self.entry.table.lots.now self.entry.number end.lct profile.new.added }
+        ensures bound { result ≡ end_bound self.entry.table.capacity self.entry.table.lots.now self.entry.number end.lct }
     {
-        if !self.ends_at(minute) {
+        if !self.grow(profile, end) {
             return 0;
         }
-        self.grow(profile, minute);
         let lot = self.lot();
-        let end = (lot.est + lot.p).min(minute);
-        let (left, _points) = profile.overflow_beside(self.number, end);
+        let until = (lot.est + lot.p).min(end.lct);
+        let (left, _points) = profile.overflow_beside(self.number, until);
         if left == 0 {
             return 0;
         }
-        least_end(self.cut(minute).as_slice()) as u16
+        least_end(self.cut(end.lct).as_slice()) as u16
     }
 
-    // The greatest bound that the latest ends of the cuts put on its est. 0 without cuts, which is no bound, and so no
-    // `Option`. The cut up to a later end has all lots of an earlier one, so one profile grows from end to end.
-    fn bound(self, cuts: &[Cut]) -> u16
-        requires { Ascending nat_cmp_total (λ x. x.lct) cuts.now }
-        ensures { result ≡ greatest_end_bound self.entry.table.capacity self.entry.table.lots.now self.entry.number (cut_ends cuts.now) }
+    // The greatest bound that the latest ends put on its est. 0 without ends, which is no bound, and so no `Option`. The
+    // cut up to a later end has all lots of an earlier one, so one profile grows from end to end.
+    fn bound(self, ends: &[End]) -> u16
+        requires all { DistinctEnds self.table.lots.now ends.now }
+        ensures answer { result ≡ greatest_end_bound self.entry.table.capacity self.entry.table.lots.now self.entry.number (end_minutes ends.now) }
     {
         let mut profile = Profile::new(self.table);
         let mut bound = 0;
-        for cut in cuts {
-            bound = bound.max(self.bound_at(&mut profile, cut.lct));
+        for end in ends {
+            bound = bound.max(self.bound_at(&mut profile, *end));
         }
         bound
     }
 }
 
-// The new bounds of the lots: each lot is looked at by its number.
-fn bounds_of(table: Table<'_>, cuts: &ArrayRow<Cut, MAX_LOTS>) -> [u16; MAX_LOTS]
-    ensures { (i : ℕ) → i < length table.entry.lots.now → slice_index result i ≡ greatest_end_bound table.entry.capacity table.entry.lots.now i (cut_ends cuts.now) }
+// The new bounds of the lots, by number.
+fn bounds_of(table: Table<'_>, ends: &[End]) -> [u16; MAX_LOTS]
+    requires all { DistinctEnds table.lots.now ends.now }
+    ensures answer { (i : ℕ) → i < length table.entry.lots.now → slice_index result i ≡ greatest_end_bound table.entry.capacity table.entry.lots.now i (end_minutes ends.now) }
 {
-    let cuts = cuts.as_slice();
     // An array: 0 past the last lot is no bound.
     let mut bounds = [0; MAX_LOTS];
     for (number, _) in table.lots.iter().enumerate() {
-        bounds[number] = Candidate { table, number }.bound(cuts);
+        bounds[number] = Candidate { table, number }.bound(ends);
     }
     bounds
 }
@@ -136,8 +134,8 @@ impl Rule for NotFirst {
 
     fn apply(&self, capacity: u16, lots: &mut [Lot]) -> Result<Verdict, Refusal> {
         let table = Table::new(capacity, lots)?;
-        let cuts = cuts_of(table);
-        let bounds = bounds_of(table, &cuts);
+        let ends = distinct_ends(table);
+        let bounds = bounds_of(table, ends.as_slice());
         Ok(raise(lots, &bounds))
     }
 }

@@ -1,12 +1,12 @@
 // Dead where some lots that must all be out by a minute are overfull.
 ghost use Rattle.std.specs.Prelude.{◌≡◌};
 ghost use Rattle.rules.specs.Chosen.{overfull};
-ghost use Rattle.rules.specs.Cuts.{cut_ends};
+ghost use Rattle.rules.specs.Ends.{end_minutes};
 ghost use Rattle.rules.specs.Overload.{due, some_overfull as overfull_at_some, overload as dead_if_overfull};
 ghost use Rattle.rules.specs.Laws.OverloadSound.{overload_sound};
 
 use crate::chosen::{chosen, is_overfull};
-use crate::cuts::{Cut, cuts_of};
+use crate::ends::{End, distinct_ends};
 use lots::{Lot, Refusal, Table};
 use rule::{Rule, Verdict};
 
@@ -15,7 +15,7 @@ pub struct Overload;
 
 // Whether the lots that must be out by a minute are overfull.
 fn overfull_by(table: Table<'_>, minute: u16) -> bool
-    ensures { result ≡ overfull table.entry.capacity (due minute table.entry.lots.now) }
+    ensures answer { result ≡ overfull table.entry.capacity (due minute table.entry.lots.now) }
 {
     let due = chosen(table, |_, lot| lot.lct <= minute);
     is_overfull(Table {
@@ -24,11 +24,11 @@ fn overfull_by(table: Table<'_>, minute: u16) -> bool
     })
 }
 
-// Whether, for some cut, the lots that must be out by its latest end are overfull.
-fn some_overfull(table: Table<'_>, cuts: &[Cut]) -> bool
-    ensures { result ≡ overfull_at_some table.entry.capacity table.entry.lots.now (cut_ends cuts.now) }
+// Whether, for some of the ends, the lots that must be out by then are overfull.
+fn some_overfull(table: Table<'_>, ends: &[End]) -> bool
+    ensures answer { result ≡ overfull_at_some table.entry.capacity table.entry.lots.now (end_minutes ends.now) }
 {
-    cuts.iter().any(|cut| overfull_by(table, cut.lct))
+    ends.iter().any(|end| overfull_by(table, end.lct))
 }
 
 impl Rule for Overload {
@@ -38,8 +38,8 @@ impl Rule for Overload {
 
     fn apply(&self, capacity: u16, lots: &mut [Lot]) -> Result<Verdict, Refusal> {
         let table = Table::new(capacity, lots)?;
-        let cuts = cuts_of(table);
-        if some_overfull(table, cuts.as_slice()) {
+        let ends = distinct_ends(table);
+        if some_overfull(table, ends.as_slice()) {
             Ok(Verdict::Dead)
         } else {
             Ok(Verdict::Still)

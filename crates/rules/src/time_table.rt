@@ -13,7 +13,7 @@ const MINUTES: usize = HORIZON as usize;
 
 // The trays that the lot holds at a minute, whenever it starts.
 fn fixed_at(lot: Lot, minute: u32) -> u16
-    ensures { result ≡ fixed_part lot minute }
+    ensures answer { result ≡ fixed_part lot minute }
 {
     if u32::from(lot.lst()) <= minute && minute < lot.ect() {
         lot.c
@@ -32,7 +32,7 @@ struct Loads<'a> {
 
 impl<'a> Loads<'a> {
     fn of(table: Table<'a>) -> Loads<'a>
-        ensures { result.table ≡ table.entry }
+        ensures answer { result.table ≡ table.entry }
     {
         let mut by_minute = [0; MINUTES];
         for lot in table.lots {
@@ -46,18 +46,18 @@ impl<'a> Loads<'a> {
 
     // Whether the load passes the capacity at some minute.
     fn some_passes(&self) -> bool
-        ensures { result ≡ some_below (λ t. nat_lt self.now.table.capacity (fixed_load self.now.table.lots.now t)) horizon }
+        ensures answer { result ≡ some_below (λ t. nat_lt self.now.table.capacity (fixed_load self.now.table.lots.now t)) horizon }
     {
         self.by_minute
             .iter()
             .any(|load| *load > self.table.capacity)
     }
 
-    // The minute after the last at which the lot, on its first run, passes the capacity beside the others. 0 where none
-    // does, which is no bound, and so no `Option`. The lot is given alone, so that it is lawful is asked.
+    // The minute after the last at which the lot, started at its est, does not fit beside the fixed parts of the others.
+    // 0 where there is none, which is no bound, and so no `Option`. The lot is given alone, so that it is lawful is asked.
     fn bound(&self, lot: Lot) -> u16
-        requires { LawfulLot max_capacity lot }
-        ensures { result ≡ after_last (blocked_under self.now.by_minute self.now.table.capacity lot) (earliest_end lot) }
+        requires lawful { LawfulLot max_capacity lot }
+        ensures answer { result ≡ after_last (blocked_under self.now.by_minute self.now.table.capacity lot) (earliest_end lot) }
     {
         (u32::from(lot.est)..lot.ect())
             .rev()
@@ -70,11 +70,10 @@ impl<'a> Loads<'a> {
 
     // The new bounds of the lots, by number.
     fn bounds(&self) -> [u16; MAX_LOTS]
-        ensures { (j : ℕ) → j < length self.now.table.lots.now → slice_index result j ≡ bound_of self.now.table.capacity self.now.table.lots.now j }
+        ensures answer { (j : ℕ) → j < length self.now.table.lots.now → slice_index result j ≡ bound_of self.now.table.capacity self.now.table.lots.now j }
     {
         // An array: 0 past the last lot is no bound.
         let mut bounds = [0; MAX_LOTS];
-        // Each lot is looked at, with its number.
         for (number, lot) in self.table.lots.iter().enumerate() {
             bounds[number] = self.bound(*lot);
         }

@@ -8,10 +8,11 @@ use Rattle.std.specs.Str.Parse.{digits_value}
 use Rattle.std.proofs.lemmas.Bool.{cases_eq, cases_lt}
 use Rattle.std.proofs.lemmas.Fmt.{digits_decimal, digits_value-decimal, decimal-digits_value}
 use Rattle.lots.specs.Limits.{max_lots}
-use Rattle.sheet.specs.Lines.{Ends, Line, written, machine, name, lot, narrow, tighten, solve, numbers, newline, space, first_printed, last_printed, max_name, max_number, max_budget, Printed, Stops, BeginsWithLine, BeginsBy, BeginsWithNumber, BeginsWithNumbers, BeginsWithName}
-use Rattle.sheet.specs.Words.{BeginsNumeral, digit_zero, digit_one, digit_nine}
+use Rattle.lots.specs.Texts.{numbers, space, digit_zero}
+use Rattle.sheet.specs.Lines.{Line, written, machine, name, lot, narrow, tighten, solve, newline, first_printable, last_printable, max_name, max_number, max_budget, Printable, BeginsWithLine}
+use Rattle.sheet.specs.Words.{BeginsNumeral, digit_one, digit_nine, Ends, Stops, BeginsBy, BeginsWithNumber, BeginsWithNumbers, BeginsWithName}
 use Rattle.sheet.proofs.Letters.{machine_letter, name_letter, lot_letter, narrow_letter, tighten_letter, solve_letter, no_machine, no_machine_of_many, no_lot, no_narrow, no_solve, no_name, no_letter, no_empty_line, not_ended}
-use Rattle.sheet.proofs.Lines.{run_one, number_one, numbers_stop, newline_follows}
+use Rattle.sheet.proofs.Lines.{stretch_one, number_one, numbers_stop, newline_follows}
 use Rattle.sheet.proofs.Numerals.{digits, no_numeral, zero_alone}
 use Rattle.sheet.proofs.Reading.{ends, numbers_cut, number_first, no_more_numbers, too_great}
 
@@ -25,11 +26,11 @@ range_decided low high b = elim (cases_lt b low) [
   | inr above ↦ elim (cases_lt high b) [ inl past ↦ inr (λ within. omega arith) | inr within ↦ inl (above, within) ]
 ]
 
--- the longest run of bytes in a range
-run_found : (low high : ℕ) (bs : List ℕ) → (w : List ℕ) × (rest : List ℕ) × (bs ≡ w ++ rest) × AllByRecursion (IsInRange low high) w × Stops (IsInRange low high) rest
-run_found low high [] = ([], [], refl, tt, tt)
-run_found low high (b ∷ bs) = elim (range_decided low high b) [
-  | inl within ↦ let (w, rest, parts, each, stops) = run_found low high bs in (b ∷ w, rest, ap (λ xs. b ∷ xs) parts, (within, each), stops)
+-- the longest stretch of bytes in a range
+stretch_found : (low high : ℕ) (bs : List ℕ) → (w : List ℕ) × (rest : List ℕ) × (bs ≡ w ++ rest) × AllByRecursion (IsInRange low high) w × Stops (IsInRange low high) rest
+stretch_found low high [] = ([], [], refl, tt, tt)
+stretch_found low high (b ∷ bs) = elim (range_decided low high b) [
+  | inl within ↦ let (w, rest, parts, each, stops) = stretch_found low high bs in (b ∷ w, rest, ap (λ xs. b ∷ xs) parts, (within, each), stops)
   | inr out ↦ ([], b ∷ bs, refl, tt, out)
 ]
 
@@ -67,12 +68,12 @@ number_found [] = inr (λ n rest begins. omega (arith, ap length begins.0))
 number_found (b ∷ bs) = elim (cases_eq b space) [
   | inr other ↦ inr (λ n rest begins. other (ap (λ ds. get_or ds 0 0) begins.0))
   | inl spaced ↦
-      let (w, rest, parts, each, stops) = run_found digit_zero digit_nine bs in
+      let (w, rest, parts, each, stops) = stretch_found digit_zero digit_nine bs in
       elim (numeral_found w each) [
         | inl (n, is, small) ↦ inl (n, rest, (ap₂ (λ x xs. x ∷ xs) spaced (parts ∙ ap (λ ds. ds ++ rest) (is ∙ sym (append-nil (decimal n)))), small, stops))
         | inr none ↦ inr (λ n more begins.
             let same = sym parts ∙ ap (drop 1) (number_first (b ∷ bs) n more begins.0) in
-            let one = run_one IsAsciiDigit w (decimal n) rest more each (digits_decimal digits n (omega arith)) stops begins.2 same in
+            let one = stretch_one IsAsciiDigit w (decimal n) rest more each (digits_decimal digits n (omega arith)) stops begins.2 same in
             none n (one.0, begins.1))
       ]
 ]
@@ -107,11 +108,11 @@ name_found [] = inr (λ w rest begins. omega (arith, ap length begins.0))
 name_found (b ∷ bs) = elim (cases_eq b space) [
   | inr other ↦ inr (λ w rest begins. other (ap (λ ds. get_or ds 0 0) begins.0))
   | inl spaced ↦
-      let (w, rest, parts, each, stops) = run_found first_printed last_printed bs in
+      let (w, rest, parts, each, stops) = stretch_found first_printable last_printable bs in
       elim (range_decided 1 max_name (length w)) [
         | inl fits ↦ inl (w, rest, (ap₂ (λ x xs. x ∷ xs) spaced parts, (fits.0, fits.1, each), stops))
         | inr none ↦ inr (λ v more begins.
-            let one = run_one Printed w v rest more each begins.1.2 stops begins.2 (sym parts ∙ ap (drop 1) begins.0) in
+            let one = stretch_one Printable w v rest more each begins.1.2 stops begins.2 (sym parts ∙ ap (drop 1) begins.0) in
             none (rw one.0 begins.1.0, rw one.0 begins.1.1))
       ]
 ]

@@ -5,9 +5,10 @@ use Rattle.std.specs.List.{AllByRecursion}
 use Rattle.std.proofs.lemmas.Fmt.{length-decimal-le}
 use Rattle.std.proofs.lemmas.Bool.{cases_lt}
 use Rattle.std.proofs.lemmas.List.{length-take}
-use Rattle.lots.specs.Limits.{horizon, max_lots, min_print}
+use Rattle.lots.specs.Limits.{horizon, max_lots}
 use Rattle.lots.specs.Refusals.{refusal_number}
 use Rattle.lots.specs.Tables.{LawfulLot}
+use Rattle.lots.specs.Texts.{numbers}
 use Rattle.lots.specs.declared.Lot.{Lot}
 use Rattle.lots.specs.declared.Refusal.{Refusal}
 use Rattle.lots.specs.declared.Refusal.TheVariants as refusal
@@ -20,10 +21,10 @@ use Rattle.tree.specs.declared.Search.{Search}
 use Rattle.tree.specs.declared.Search.TheVariants.{Best, None, Spent}
 use Rattle.tree.proofs.Answers.{InWeek, solved_in_week}
 use Rattle.plan.specs.Tables.{Table}
-use Rattle.sheet.specs.Desks.{Orderly, InTime, window_line, most_of_command, most_of_refusal, commands_left}
-use Rattle.sheet.specs.Lines.{Line, machine, name, lot, narrow, tighten, solve, numbers, newline, max_name, max_budget, Bounded}
-use Rattle.sheet.specs.Prints.{ended, window_lines, windows_unless_dead, tighten_print, start_lines, solve_print, refusal_print}
-use Rattle.sheet.specs.Runs.{Desk, new_desk, head, max_commands, Due, Full, Runs, after, Prints, ends, runs, refused, ninth, formless, PrintOf}
+use Rattle.sheet.specs.Desks.{Orderly, first_line, window_line, most_of_command, most_of_refusal, commands_left}
+use Rattle.sheet.specs.Lines.{Line, machine, name, lot, narrow, tighten, solve, newline, max_name, max_budget, Bounded}
+use Rattle.sheet.specs.PrintLines.{ended, window_lines, windows_unless_dead, tighten_print, start_lines, solve_print, refusal_print}
+use Rattle.sheet.specs.Runs.{Desk, new_desk, head, max_commands, min_print, whole_sheet, Due, Full, Runs, after, Prints, ends, runs, refused, ninth, formless, PrintOf}
 use Rattle.sheet.proofs.Lines.{length_number, length_budget, length_million, length_numbers}
 use Rattle.sheet.proofs.Desks.{new_orderly, after_orderly, tightened_kept}
 
@@ -33,7 +34,10 @@ length_two a b = omega (arith, length_numbers a (b ∷ []), length_numbers b [])
 length_ended : (bs : List ℕ) → length (ended bs) ≡ length bs + 1
 length_ended bs = omega (arith, length-append bs (newline ∷ []))
 
--- the most bytes of a line for a start
+-- the most bytes of the first line of what solve prints, and of a line for a start
+abbrev best_line : ℕ
+best_line = 24
+
 abbrev start_line : ℕ
 start_line = 33
 
@@ -67,12 +71,12 @@ unless_dead_short C Still names T short ok = windows_short C names T short ok
 unless_dead_short C Moved names T short ok = windows_short C names T short ok
 unless_dead_short C Dead names T short ok = omega arith
 
-pub tighten_short : (C : ℕ) (v : Verdict) (k : ℕ) (names : List (List ℕ)) (T : List Lot) → k < 10 ^ 6 → AllByRecursion (λ w. length w ≤ max_name) names → AllByRecursion (LawfulLot C) T → length (tighten_print v k names T) ≤ 15 + window_line * length T
+pub tighten_short : (C : ℕ) (v : Verdict) (k : ℕ) (names : List (List ℕ)) (T : List Lot) → k < 10 ^ 6 → AllByRecursion (λ w. length w ≤ max_name) names → AllByRecursion (LawfulLot C) T → length (tighten_print v k names T) ≤ first_line + window_line * length T
 tighten_short C v k names T few short ok =
     let first = codes "T " ++ (shown_verdict v ++ numbers (k ∷ [])) in
     omega (arith, length-append (ended first) (windows_unless_dead v names T), length_ended first, length-append (shown_verdict v) (numbers (k ∷ [])), length_numbers k [], length_million k few, verdict_short v, unless_dead_short C v names T short ok)
 
-pub solve_short : (n B : ℕ) (us : List ℕ) (a : Search) (names : List (List ℕ)) → n ≤ max_lots → length names ≡ n → B ≤ max_budget → AllByRecursion (λ w. length w ≤ max_name) names → InWeek n B us a → length (solve_print a names us) ≤ 24 + start_line * max_lots
+pub solve_short : (n B : ℕ) (us : List ℕ) (a : Search) (names : List (List ℕ)) → n ≤ max_lots → length names ≡ n → B ≤ max_budget → AllByRecursion (λ w. length w ≤ max_name) names → InWeek n B us a → length (solve_print a names us) ≤ best_line + start_line * max_lots
 solve_short n B us (Best e k) names few count within short week =
     let first = codes "S best" ++ numbers (e ∷ k ∷ []) in
     let ss = take (length names) us in
@@ -92,6 +96,10 @@ refusal_short e = length-decimal-le 2 (refusal_number e) (omega arith) (number_s
 pub refused_short : (e : Refusal) (k : ℕ) → k < 10 ^ 4 → length (refusal_print e k) ≤ most_of_refusal
 refused_short e k small =
     omega (arith, length_ended (codes "R" ++ numbers (refusal_number e ∷ k ∷ [])), length_two (refusal_number e) k, refusal_short e, length-decimal-le 4 k (omega arith) small (omega arith))
+
+-- no line comes after the ninth command
+abbrev pub InTime : Desk → Type 0
+InTime D = D.line ≤ head D.lots + max_commands + 1
 
 pub line_small : (D : Desk) → Orderly D → InTime D → D.line < 10 ^ 4
 line_small D o time = omega (arith, o.few)
@@ -124,12 +132,12 @@ module _ (m : Meaning) (sound : Sound m) where
   prints_short : (D : Desk) (bs out : List ℕ) → Orderly D → InTime D → Prints m D bs out → length out ≤ commands_left D * most_of_command + most_of_refusal
   prints_short D _ _ o time (ends e) = omega arith
   prints_short D bs _ o time (runs {rest = rest} l Q out more b n r h) =
-      let later = prints_short (after D l Q) rest more (after_orderly m sound D l Q out b.1 b.2 r o) (after_in_time D l Q o b.2 n) h in
-      omega (arith, length-append out more, later, runs_short D l Q out o b.1 b.2 n r)
+      let later = prints_short (after D l Q) rest more (after_orderly m sound D l Q out b.0.1 b.1 r o) (after_in_time D l Q o b.1 n) h in
+      omega (arith, length-append out more, later, runs_short D l Q out o b.0.1 b.1 n r)
   prints_short D bs _ o time (refused l rest e b n r) = omega (arith, refused_short e D.line (line_small D o time))
   prints_short D bs _ o time (ninth l rest b f) = omega (arith, refused_short refusal.Commands D.line (line_small D o time))
   prints_short D bs _ o time (formless n k) = omega (arith, refused_short refusal.Line D.line (line_small D o time))
 
   pub print_fits : (sheet out : List ℕ) → PrintOf m sheet out → length out ≤ min_print
-  print_fits sheet out (inl p) = omega (arith, ap length p.1, refused_short refusal.SheetLength 0 (omega arith))
+  print_fits sheet out (inl p) = omega (arith, ap length p.1, refused_short refusal.SheetLength whole_sheet (omega arith))
   print_fits sheet out (inr p) = omega (arith, prints_short new_desk sheet out new_orderly (omega arith) p.1)

@@ -6,7 +6,7 @@ pub mod Lines
 pub mod Numerals
 pub mod Once
 pub mod Pages
-pub mod Prints
+pub mod PrintLines
 pub mod Reading
 pub mod Some
 pub mod Steps

@@ -4,21 +4,22 @@ use Rattle.std.specs.Char.{IsAsciiDigit}
 use Rattle.std.specs.Fmt.{decimal}
 use Rattle.std.specs.List.{AllByRecursion}
 use Rattle.std.proofs.lemmas.Fmt.{digits_decimal, decimal_injective, length-decimal-le}
-use Rattle.lots.specs.declared.Lot.{Lot}
+use Rattle.lots.specs.Texts.{numbers}
 use Rattle.rule.specs.Laws.Tables.{lot_path}
-use Rattle.sheet.specs.Lines.{newline, max_number, max_budget, numbers, Line, machine, name, lot, narrow, tighten, solve, written, Bounded, Printed, Stops, Follows}
+use Rattle.sheet.specs.Lines.{newline, max_number, max_budget, Line, machine, name, lot, narrow, tighten, solve, written, Bounded, Printable, BeginsWithLine}
+use Rattle.sheet.specs.Words.{Stops, Follows}
 use Rattle.sheet.proofs.Numerals.{digits}
 
--- runs
+-- stretches
 
--- a text begins with one longest run of bytes of the kind P
-pub run_one : (P : ℕ → Type 0) (ds es rest more : List ℕ) → AllByRecursion P ds → AllByRecursion P es → Stops P rest → Stops P more → ds ++ rest ≡ es ++ more → (ds ≡ es) × (rest ≡ more)
-run_one P [] [] rest more some others stops ends same = (refl, same)
-run_one P [] (e ∷ es) rest more some others stops ends same = absurd (subst (Stops P) same stops others.0)
-run_one P (d ∷ ds) [] rest more some others stops ends same = absurd (subst (Stops P) (sym same) ends some.0)
-run_one P (d ∷ ds) (e ∷ es) rest more some others stops ends same =
+-- a text begins with one longest stretch of bytes of the kind P
+pub stretch_one : (P : ℕ → Type 0) (ds es rest more : List ℕ) → AllByRecursion P ds → AllByRecursion P es → Stops P rest → Stops P more → ds ++ rest ≡ es ++ more → (ds ≡ es) × (rest ≡ more)
+stretch_one P [] [] rest more some others stops ends same = (refl, same)
+stretch_one P [] (e ∷ es) rest more some others stops ends same = absurd (subst (Stops P) same stops others.0)
+stretch_one P (d ∷ ds) [] rest more some others stops ends same = absurd (subst (Stops P) (sym same) ends some.0)
+stretch_one P (d ∷ ds) (e ∷ es) rest more some others stops ends same =
     let tails : ds ++ rest ≡ es ++ more = cc in
-    let one = run_one P ds es rest more some.1 others.1 stops ends tails in
+    let one = stretch_one P ds es rest more some.1 others.1 stops ends tails in
     let heads : d ≡ e = cc in
     (cc (one.0, heads), one.1)
 
@@ -26,7 +27,7 @@ run_one P (d ∷ ds) (e ∷ es) rest more some others stops ends same =
 
 pub number_one : (n k : ℕ) (rest more : List ℕ) → n < 2 ^ 64 → k < 2 ^ 64 → Stops IsAsciiDigit rest → Stops IsAsciiDigit more → decimal n ++ rest ≡ decimal k ++ more → (n ≡ k) × (rest ≡ more)
 number_one n k rest more small low stops ends same =
-    let one = run_one IsAsciiDigit (decimal n) (decimal k) rest more (digits_decimal digits n small) (digits_decimal digits k low) stops ends same in
+    let one = stretch_one IsAsciiDigit (decimal n) (decimal k) rest more (digits_decimal digits n small) (digits_decimal digits k low) stops ends same in
     (decimal_injective n k small low one.0, one.1)
 
 -- no digit comes after a number that is followed by numbers
@@ -54,7 +55,7 @@ first_one (machine C n) (machine D m) rest more within low stops ends same =
     let one = numbers_one (C ∷ n ∷ []) (D ∷ m ∷ []) rest more refl (search rules) (search rules) stops ends (ap (drop 1) same) in
     (cc one.0, one.1)
 first_one (name w) (name v) rest more within low stops ends same =
-    let one = run_one Printed w v rest more within.2 low.2 stops ends (ap (drop 2) same) in
+    let one = stretch_one Printable w v rest more within.2 low.2 stops ends (ap (drop 2) same) in
     (ap name one.0, one.1)
 first_one (lot i x) (lot j y) rest more within low stops ends same =
     let one = numbers_one (i ∷ x.est ∷ x.lct ∷ x.p ∷ x.c ∷ []) (j ∷ y.est ∷ y.lct ∷ y.p ∷ y.c ∷ []) rest more refl (search rules) (search rules) stops ends (ap (drop 1) same) in
@@ -73,16 +74,16 @@ first_one l k rest more within low stops ends same = absurd (omega (arith, ap (�
 -- the byte that ends a line is no digit, and no part of a name
 pub newline_follows : (l : Line) (rest : List ℕ) → Follows l (newline ∷ rest)
 newline_follows (machine C n) rest = λ digit. omega (arith, digit.0)
-newline_follows (name w) rest = λ printed. omega (arith, printed.0)
+newline_follows (name w) rest = λ printable. omega (arith, printable.0)
 newline_follows (lot i x) rest = λ digit. omega (arith, digit.0)
 newline_follows (narrow i from to) rest = λ digit. omega (arith, digit.0)
 newline_follows tighten rest = tt
 newline_follows (solve budget) rest = λ digit. omega (arith, digit.0)
 
 -- a text begins with one line at most
-pub written_one : (l k : Line) (rest more : List ℕ) → Bounded l → Bounded k → written l ++ newline ∷ rest ≡ written k ++ newline ∷ more → (l ≡ k) × (rest ≡ more)
-written_one l k rest more within low same =
-    let one = first_one l k (newline ∷ rest) (newline ∷ more) within low (newline_follows l rest) (newline_follows k more) same in
+pub line_one : (bs : List ℕ) (l k : Line) (rest more : List ℕ) → BeginsWithLine bs l rest → BeginsWithLine bs k more → (l ≡ k) × (rest ≡ more)
+line_one bs l k rest more b c =
+    let one = first_one l k (newline ∷ rest) (newline ∷ more) b.1 c.1 (newline_follows l rest) (newline_follows k more) (sym b.0 ∙ c.0) in
     (one.0, ap (drop 1) one.1)
 
 -- lengths

@@ -3,6 +3,7 @@ use Rattle.std.proofs.Common.{◌≡◌, ℕ, ◌<◌, List, [], ◌∷◌, ◌+
 use Rattle.lots.specs.Checks.{Check, Passed, Refused}
 use Rattle.lots.proofs.Checks.{refused_one, passed_unrefused}
 use Rattle.lots.specs.Limits.{max_lots}
+use Rattle.lots.specs.Texts.{numbers}
 use Rattle.lots.specs.declared.Refusal.{Refusal}
 use Rattle.rule.specs.Meanings.{Meaning, Sound}
 use Rattle.tree.specs.Answer.{solve_checks}
@@ -12,19 +13,15 @@ use Rattle.tree.proofs.Answers.{SameStarts, solved_one}
 use Rattle.plan.specs.Tables.{Table}
 use Rattle.plan.specs.Calls.{open_checks, admit_checks, narrow_checks}
 use Rattle.plan.proofs.Once.{opened_one, admitted_one, narrowed_one, tightened_one}
-use Rattle.sheet.specs.Lines.{Line, machine, name, lot, narrow, tighten, solve, written, newline, numbers}
-use Rattle.sheet.specs.Prints.{ended, tighten_print, start_lines, solve_print, refusal_print}
+use Rattle.sheet.specs.Lines.{Line, machine, name, lot, narrow, tighten, solve, written, newline}
+use Rattle.sheet.specs.PrintLines.{ended, tighten_print, start_lines, solve_print, refusal_print}
 use Rattle.sheet.specs.Runs.{Desk, new_desk, head, Due, Begins, max_trail, Searched, Runs, Refuses, after, Prints, ends, runs, refused, ninth, formless, PrintOf}
-use Rattle.sheet.proofs.Lines.{written_one}
+use Rattle.sheet.proofs.Lines.{line_one}
 use Rattle.sheet.specs.Desks.{Orderly}
 use Rattle.sheet.proofs.Desks.{new_orderly, after_orderly}
 
--- a text that begins with a line that is due begins with no other
-begins_one : (D : Desk) (bs : List ℕ) (l k : Line) (rest more : List ℕ) → Begins D bs l rest → Begins D bs k more → (l ≡ k) × (rest ≡ more)
-begins_one D bs l k rest more b c = written_one l k rest more b.1 c.1 (sym b.0 ∙ c.0)
-
 nothing_begins : (D : Desk) (l : Line) (rest : List ℕ) → Begins D [] l rest → ⊥
-nothing_begins D l rest b = omega (arith, ap length b.0, length-append (written l) (newline ∷ rest))
+nothing_begins D l rest b = omega (arith, ap length b.0.0, length-append (written l) (newline ∷ rest))
 
 -- searches
 
@@ -92,20 +89,20 @@ module _ (m : Meaning) (sound : Sound m) where
   prints_one D _ _ _ o (ends e) (formless n k) = absurd (n refl e)
   prints_one D _ _ _ o (runs {rest = rest} l Q out more b n r h) (ends e) = absurd (nothing_begins D l rest b)
   prints_one D bs _ _ o (runs {rest = rest} l Q out more b n r h) (runs {rest = left} k R also others c i s g) =
-      let one = begins_one D bs l k rest left b c in
-      let same = runs_one D l Q R out also o b.2 r (subst (λ j. Runs m D j R also) (sym one.0) s) in
-      ap₂ ◌++◌ same.1 (prints_one (after D l Q) rest more others (after_orderly m sound D l Q out b.1 b.2 r o) h (after_same D l k Q R rest left others one.0 same.0 one.1 g))
+      let one = line_one bs l k rest left b.0 c.0 in
+      let same = runs_one D l Q R out also o b.1 r (subst (λ j. Runs m D j R also) (sym one.0) s) in
+      ap₂ ◌++◌ same.1 (prints_one (after D l Q) rest more others (after_orderly m sound D l Q out b.0.1 b.1 r o) h (after_same D l k Q R rest left others one.0 same.0 one.1 g))
   prints_one D bs _ _ o (runs {rest = rest} l Q out more b n r h) (refused k left e c i s) =
-      let one = begins_one D bs l k rest left b c in
+      let one = line_one bs l k rest left b.0 c.0 in
       absurd (runs_unrefused D l Q out e r (subst (λ j. Refuses m D j e) (sym one.0) s))
   prints_one D bs _ _ o (runs l Q out more b n r h) (ninth k left c f) = absurd (n f)
   prints_one D bs _ _ o (runs {rest = rest} l Q out more b n r h) (formless i k) = absurd (k l rest b)
   prints_one D _ _ _ o (refused l rest e b n r) (ends f) = absurd (nothing_begins D l rest b)
   prints_one D bs _ _ o (refused l rest e b n r) (runs {rest = left} k R also others c i s g) =
-      let one = begins_one D bs k l left rest c b in
+      let one = line_one bs k l left rest c.0 b.0 in
       absurd (runs_unrefused D k R also e s (subst (λ j. Refuses m D j e) (sym one.0) r))
   prints_one D bs _ _ o (refused l rest e b n r) (refused k left f c i s) =
-      let one = begins_one D bs l k rest left b c in
+      let one = line_one bs l k rest left b.0 c.0 in
       ap (λ d. refusal_print d D.line) (refuses_one D l e f r (subst (λ j. Refuses m D j f) (sym one.0) s))
   prints_one D bs _ _ o (refused l rest e b n r) (ninth k left c f) = absurd (n f)
   prints_one D bs _ _ o (refused l rest e b n r) (formless i k) = absurd (k l rest b)

@@ -5,12 +5,13 @@ use Rattle.std.specs.Fmt.{decimal}
 use Rattle.std.specs.List.{AllByRecursion}
 use Rattle.std.proofs.lemmas.Fmt.{digits_decimal}
 use Rattle.std.proofs.lemmas.List.{take-append-drop, drop-drop}
-use Rattle.sheet.specs.Lines.{Printed, Stops, Ends, Reads, Takes, BeginsWithNumber, BeginsWithNumbers, BeginsWithName, numbers, space, max_number}
-use Rattle.sheet.specs.Words.{Word, CommandAt, NumberAt, NameAt, end_of, Letter, Numeral, Called}
+use Rattle.lots.specs.Texts.{Reads, numbers, space}
+use Rattle.sheet.specs.Lines.{Printable, max_number}
+use Rattle.sheet.specs.Words.{Word, CommandAt, NumberAt, NameAt, end_of, Letter, Numeral, Called, Stops, Ends, Takes, BeginsWithNumber, BeginsWithNumbers, BeginsWithName}
 use Rattle.sheet.specs.declared.token.Token.{Token}
 use Rattle.sheet.specs.declared.token.Token.TheVariants.{Name, Number, Command}
 use Rattle.sheet.proofs.Numerals.{digits}
-use Rattle.sheet.proofs.Lines.{run_one, number_one, numbers_stop}
+use Rattle.sheet.proofs.Lines.{stretch_one, number_one, numbers_stop}
 
 pub at_end : (at : ℕ) (sheet : List ℕ) → at ≤ length sheet → drop at sheet ≡ [] → at ≡ length sheet
 at_end at sheet within none = omega (arith, length-drop at sheet, ap length none)
@@ -50,7 +51,7 @@ number_taken sheet at (Command c p) r stands reads = absurd stands
 number_taken sheet at (Number w p) None stands reads = λ n more begins.
     let cut = word_cut IsAsciiDigit sheet at w.now p stands in
     let same = ap (drop 1) (sym cut.0 ∙ number_first (drop at sheet) n more begins.0) in
-    let one = run_one IsAsciiDigit w.now (decimal n) (drop (p + length w.now) sheet) more cut.1 (digits_decimal digits n (omega arith)) cut.2 begins.2 same in
+    let one = stretch_one IsAsciiDigit w.now (decimal n) (drop (p + length w.now) sheet) more cut.1 (digits_decimal digits n (omega arith)) cut.2 begins.2 same in
     reads n (one.0, begins.1)
 number_taken sheet at (Number w p) (Some n) stands reads =
     let cut = word_cut IsAsciiDigit sheet at w.now p stands in
@@ -60,13 +61,13 @@ pub name_taken : (sheet : List ℕ) (at : ℕ) (t : Token) (r : Option (Bor (Lis
 name_taken sheet at (Number w p) r stands reads = absurd stands
 name_taken sheet at (Command c p) r stands reads = absurd stands
 name_taken sheet at (Name w p) None stands reads = λ v more begins.
-    let cut = word_cut Printed sheet at w.now p stands in
+    let cut = word_cut Printable sheet at w.now p stands in
     let same = ap (drop 1) (sym cut.0 ∙ begins.0) in
-    let one = run_one Printed w.now v (drop (p + length w.now) sheet) more cut.1 begins.1.2 cut.2 begins.2 same in
+    let one = stretch_one Printable w.now v (drop (p + length w.now) sheet) more cut.1 begins.1.2 cut.2 begins.2 same in
     reads w (refl, rw one.0 begins.1.0, rw one.0 begins.1.1)
 name_taken sheet at (Name w p) (Some v) stands reads =
-    let cut = word_cut Printed sheet at w.now p stands in
-    (cut.0 ∙ ap (λ ds. space ∷ (ds ++ drop (p + length w.now) sheet)) reads.0, (reads.1, reads.2, subst (AllByRecursion Printed) reads.0 cut.1), cut.2)
+    let cut = word_cut Printable sheet at w.now p stands in
+    (cut.0 ∙ ap (λ ds. space ∷ (ds ++ drop (p + length w.now) sheet)) reads.0, (reads.1, reads.2, subst (AllByRecursion Printable) reads.0 cut.1), cut.2)
 
 -- numbers one after another
 

@@ -4,7 +4,7 @@ use Rattle.std.proofs.lemmas.Bool.{cases_lt}
 use Rattle.std.proofs.lemmas.List.{length-replicate}
 use Rattle.lots.proofs.Checks.{Either, less, at_most, equal, both}
 use Rattle.lots.specs.Checks.{Passed}
-use Rattle.lots.specs.Limits.{max_lots, max_sheet}
+use Rattle.lots.specs.Limits.{max_lots}
 use Rattle.lots.specs.Tables.{blank}
 use Rattle.lots.specs.declared.Lot.{Lot}
 use Rattle.lots.specs.declared.Refusal.{Refusal}
@@ -16,8 +16,8 @@ use Rattle.plan.specs.Tables.{Table, empty, with_lot, with_between}
 use Rattle.plan.proofs.Some.{opened_some, admitted_some, narrowed_some, tightened_some}
 use Rattle.sheet.specs.Desks.{Orderly}
 use Rattle.sheet.specs.Lines.{Line, machine, name, lot, narrow, tighten, solve, written, newline}
-use Rattle.sheet.specs.Prints.{narrow_print, tighten_print, solve_print, refusal_print}
-use Rattle.sheet.specs.Runs.{Desk, new_desk, head, Due, MayEnd, max_commands, max_trail, Runs, Refuses, after, Prints, runs, refused, ninth, PrintOf}
+use Rattle.sheet.specs.PrintLines.{narrow_print, tighten_print, solve_print, refusal_print}
+use Rattle.sheet.specs.Runs.{Desk, new_desk, head, Due, MayEnd, max_sheet, whole_sheet, max_commands, max_trail, Runs, Refuses, after, Prints, runs, refused, ninth, PrintOf}
 use Rattle.sheet.proofs.Desks.{new_orderly, after_orderly}
 use Rattle.sheet.proofs.Finding.{find_line}
 use Rattle.sheet.proofs.Steps.{no_line, not_due, prints_end}
@@ -78,13 +78,13 @@ module _ (m : Meaning) (sound : Sound m) where
         elim (due_or_not D l) [
           | inr other ↦ (refusal_print refusal.Line D.line, not_due m D bs goes_on l rest begins other)
           | inl due ↦ elim (less (head D.lots + max_commands) D.line) [
-            | inl full ↦ (refusal_print refusal.Commands D.line, ninth l rest (begins.0, begins.1, due) full)
+            | inl full ↦ (refusal_print refusal.Commands D.line, ninth l rest (begins, due) full)
             | inr time ↦ elim (line_comes D l o) [
-              | inr r ↦ (refusal_print r.0 D.line, refused l rest r.0 (begins.0, begins.1, due) time r.1)
+              | inr r ↦ (refusal_print r.0 D.line, refused l rest r.0 (begins, due) time r.1)
               | inl ran ↦
                   let shorter : length rest < length bs = omega (arith, ap length begins.0, length-append (written l) (newline ∷ rest)) in
                   let later = more (after D l ran.0) rest shorter (after_orderly m sound D l ran.0 ran.1 begins.1 due ran.2 o) in
-                  (ran.1 ++ later.0, runs l ran.0 ran.1 later.0 (begins.0, begins.1, due) time ran.2 later.1)
+                  (ran.1 ++ later.0, runs l ran.0 ran.1 later.0 (begins, due) time ran.2 later.1)
             ]
           ]
         ]
@@ -100,6 +100,6 @@ module _ (m : Meaning) (sound : Sound m) where
 
   pub print_some : (sheet : List ℕ) → (out : List ℕ) × PrintOf m sheet out
   print_some sheet = elim (cases_lt max_sheet (length sheet)) [
-    | inl long ↦ (refusal_print refusal.SheetLength 0, inl (long, refl))
+    | inl long ↦ (refusal_print refusal.SheetLength whole_sheet, inl (long, refl))
     | inr short ↦ let print = prints_some (suc (length sheet)) new_desk sheet (omega arith) new_orderly in (print.0, inr (short, print.1))
   ]

@@ -1,7 +1,7 @@
 -- One line of a sheet after another.
 use Rattle.std.proofs.Common.{◌≡◌, ℕ, ◌<◌, ◌≤◌, List, [], ◌∷◌, ◌++◌, length, Ok, Err, Result, sym, refl, ap, subst, ◌∙◌, arith, length-append}
 use Rattle.std.specs.Result.{IsErrAnd}
-use Rattle.lots.specs.Limits.{max_lots, min_print}
+use Rattle.lots.specs.Limits.{max_lots}
 use Rattle.lots.specs.declared.Lot.{Lot}
 use Rattle.lots.specs.declared.Refusal.{Refusal}
 use Rattle.lots.specs.declared.Refusal.TheVariants as refusal
@@ -11,16 +11,16 @@ use Rattle.tree.specs.Answer.{Solved}
 use Rattle.tree.specs.declared.Search.{Search}
 use Rattle.plan.specs.Calls.{Tightened}
 use Rattle.plan.specs.Tables.{Table}
-use Rattle.sheet.specs.Desks.{Orderly, InTime, RoomFor}
+use Rattle.sheet.specs.Desks.{Orderly, RoomFor}
 use Rattle.sheet.specs.Lines.{Line, tighten, solve, written, newline, BeginsWithLine}
 use Rattle.sheet.specs.Pages.{HasRoom, Adds}
-use Rattle.sheet.specs.Prints.{tighten_print, solve_print, refusal_print}
-use Rattle.sheet.specs.Runs.{Desk, new_desk, Due, Begins, MayEnd, Full, max_trail, Runs, Searched, Prints, ends, runs, refused, formless}
+use Rattle.sheet.specs.PrintLines.{tighten_print, solve_print, refusal_print}
+use Rattle.sheet.specs.Runs.{Desk, new_desk, Due, Begins, MayEnd, Full, min_print, whole_sheet, max_trail, Runs, Searched, Prints, ends, runs, refused, formless}
 use Rattle.sheet.specs.Steps.{Ready, Ran, Took}
 use Rattle.sheet.specs.declared.page.Page.{Page}
 use Rattle.sheet.proofs.Desks.{after_orderly}
-use Rattle.sheet.proofs.Lengths.{line_small, after_in_time, refused_short, runs_short}
-use Rattle.sheet.proofs.Lines.{written_one}
+use Rattle.sheet.proofs.Lengths.{InTime, line_small, after_in_time, refused_short, runs_short}
+use Rattle.sheet.proofs.Lines.{line_one}
 use Rattle.sheet.proofs.Pages.{adds_then}
 
 module _ (m : Meaning) (sound : Sound m) (D : Desk) (p : Page) where
@@ -50,10 +50,10 @@ module _ (m : Meaning) (sound : Sound m) (D : Desk) (p : Page) where
 module _ (m : Meaning) (D : Desk) (bs : List ℕ) (goes_on : (bs ≡ []) → MayEnd D → ⊥) where
   -- what a text prints that may not end, and begins with no line that is due
   pub no_line : ((l : Line) (rest : List ℕ) → BeginsWithLine bs l rest → ⊥) → Prints m D bs (refusal_print refusal.Line D.line)
-  no_line none = formless goes_on (λ l rest b. none l rest (b.0, b.1))
+  no_line none = formless goes_on (λ l rest b. none l rest b.0)
 
   pub not_due : (l : Line) (rest : List ℕ) → BeginsWithLine bs l rest → (Due D l → ⊥) → Prints m D bs (refusal_print refusal.Line D.line)
-  not_due l rest b other = formless goes_on (λ k more c. other (subst (Due D) (sym (written_one l k rest more b.1 c.1 (sym b.0 ∙ c.0)).0) c.2))
+  not_due l rest b other = formless goes_on (λ k more c. other (subst (Due D) (sym (line_one bs l k rest more b c.0).0) c.1))
 
 -- what came of its first line, where that line was run or refused
 pub took_line : (m : Meaning) (D : Desk) (bs : List ℕ) (l : Line) (rest : List ℕ) (E : Desk) (p q : Page) (r : Result (Unit {0}) Refusal) → Begins D bs l rest → (Full D → ⊥) → Ran m D l E p q r → Took m D bs E rest p q r
@@ -71,11 +71,11 @@ pub record Next (m : Meaning) (D : Desk) (bs : List ℕ) (E : Desk) (rest : List
 pub took_next : (m : Meaning) → Sound m → (D : Desk) (bs : List ℕ) (E : Desk) (rest : List ℕ) (p q : Page) → Orderly D → RoomFor D p → Took m D bs E rest p q (Ok tt) → Next m D bs E rest p q
 took_next m sound D bs E rest p q o room (l, b, n, (Q, out, r, is, adds)) =
     subst (λ F. Next m D bs F rest p q) (sym is) (record {
-      orderly = after_orderly m sound D l Q out b.1 b.2 r o;
-      time = after_in_time D l Q o b.2 n;
-      room = omega (arith, room, adds.longer, adds.same_size, runs_short m sound D l Q out o b.1 b.2 n r);
+      orderly = after_orderly m sound D l Q out b.0.1 b.1 r o;
+      time = after_in_time D l Q o b.1 n;
+      room = omega (arith, room, adds.longer, adds.same_size, runs_short m sound D l Q out o b.0.1 b.1 n r);
       prints = λ more s printed added. (out ++ more, runs l Q out more b n r printed, adds_then adds added);
-      shorter = omega (arith, ap length b.0, length-append (written l) (newline ∷ rest));
+      shorter = omega (arith, ap length b.0.0, length-append (written l) (newline ∷ rest));
     })
 
 -- there is room for a refusal after all commands
@@ -99,5 +99,5 @@ refused_adds D E p q r e k same stays number a =
 pub prints_end : (m : Meaning) (D : Desk) (bs : List ℕ) → bs ≡ [] → MayEnd D → Prints m D bs []
 prints_end m D bs none may = subst (λ cs. Prints m D cs []) (sym none) (ends may)
 
-pub long_room : (p : Page) → RoomFor new_desk p → HasRoom p (refusal_print refusal.SheetLength 0)
-long_room p room = omega (arith, room, refused_short refusal.SheetLength 0 (omega arith))
+pub long_room : (p : Page) → RoomFor new_desk p → HasRoom p (refusal_print refusal.SheetLength whole_sheet)
+long_room p room = omega (arith, room, refused_short refusal.SheetLength whole_sheet (omega arith))

@@ -17,24 +17,26 @@ pub record Orderly (D : Desk) : Type 0 where
   pub admitted : length D.plan.lots ≡ min (D.line - (2 + D.lots)) D.lots
   pub lawful : LawfulTable D.plan
 
--- no line comes after the ninth command
-abbrev pub InTime : Desk → Type 0
-InTime D = D.line ≤ head D.lots + max_commands + 1
-
--- the most lines of a sheet, and one that may be run
+-- the most lines of a sheet
 abbrev pub max_lines : ℕ
 max_lines = head max_lots + max_commands
 
+-- the line that is due is one of these
 abbrev pub HasLine : Desk → Type 0
 HasLine D = D.line ≤ max_lines
 
--- the most bytes of a line for a window, of what is printed for a command, and of a refusal
+-- the most bytes of the first line of what tighten prints, and of a line for a window
+abbrev pub first_line : ℕ
+first_line = 15
+
 abbrev pub window_line : ℕ
 window_line = 39
 
+-- the most bytes of what is printed for a command: what tighten prints for 64 lots; the first line of what solve prints may be longer, but 64 lines for starts are shorter than 64 for windows by more than that
 abbrev pub most_of_command : ℕ
-most_of_command = 15 + window_line * max_lots
+most_of_command = first_line + window_line * max_lots
 
+-- the most bytes of a refusal
 abbrev pub most_of_refusal : ℕ
 most_of_refusal = 10
 

@@ -1,7 +1,7 @@
 pub mod Lines
 pub mod Words
 pub mod Said
-pub mod Prints
+pub mod PrintLines
 pub mod Runs
 pub mod Pages
 pub mod Desks

@@ -1,22 +1,33 @@
 -- The run of a sheet: its lines in order, and what they print.
 use Rattle.std.specs.Prelude.{◌≡◌, ℕ, suc, ◌+◌, ◌-◌, ◌*◌, ◌<◌, ◌≤◌, ◌⊎◌, List, [], ◌∷◌, ◌++◌, length, drop, Ok, Err, Result}
 use Rattle.lots.specs.Checks.{Check, Checked}
-use Rattle.lots.specs.Limits.{max_lots, max_sheet, min_print}
+use Rattle.lots.specs.Limits.{max_lots}
 use Rattle.lots.specs.declared.Lot.{Lot}
 use Rattle.lots.specs.declared.Refusal.{Refusal}
 use Rattle.lots.specs.declared.Refusal.TheVariants as refusal
 use Rattle.rule.specs.Meanings.{Meaning, Sound}
 use Rattle.rule.specs.declared.Verdict.{Verdict}
-use Rattle.tree.specs.Answer.{Solved}
+use Rattle.tree.specs.Answer.{trail_cells, Solved}
 use Rattle.tree.specs.declared.Search.{Search}
 use Rattle.plan.specs.Calls.{Opened, Admitted, Narrowed, Tightened}
 use Rattle.plan.specs.Tables.{Table, empty}
-use Rattle.sheet.specs.Lines.{Line, machine, name, lot, narrow, tighten, solve, written, Bounded, newline}
-use Rattle.sheet.specs.Prints.{narrow_print, tighten_print, solve_print, refusal_print}
+use Rattle.sheet.specs.Lines.{Line, machine, name, lot, narrow, tighten, solve, BeginsWithLine}
+use Rattle.sheet.specs.PrintLines.{narrow_print, tighten_print, solve_print, refusal_print}
 
--- the most commands of a sheet
+-- the most bytes of a sheet, and the most commands
+abbrev pub max_sheet : ℕ
+max_sheet = 16384
+
 abbrev pub max_commands : ℕ
 max_commands = 8
+
+-- the fewest bytes of a buffer for the print of a sheet
+abbrev pub min_print : ℕ
+min_print = 32768
+
+-- the line number of a refusal of the whole sheet
+abbrev pub whole_sheet : ℕ
+whole_sheet = 0
 
 -- what a run knows when the line with the number `line` is due: how many lots the first line has said, the names so far, and the plan
 pub record Desk : Type 0 where
@@ -37,13 +48,11 @@ abbrev pub Due : Desk → Line → Type 0
 Due D (machine C n) = D.line ≡ 1
 Due D (name w) = (1 < D.line) × (D.line ≤ 1 + D.lots)
 Due D (lot i x) = (1 + D.lots < D.line) × (D.line ≤ head D.lots) × (i ≡ D.line - (2 + D.lots))
-Due D (narrow i from to) = head D.lots < D.line
-Due D tighten = head D.lots < D.line
-Due D (solve budget) = head D.lots < D.line
+Due D l = head D.lots < D.line
 
 -- the bytes begin with a line that is due, and `rest` comes after it
 abbrev pub Begins : Desk → List ℕ → Line → List ℕ → Type 0
-Begins D bs l rest = (bs ≡ written l ++ newline ∷ rest) × Bounded l × Due D l
+Begins D bs l rest = BeginsWithLine bs l rest × Due D l
 
 -- the sheet may end here: every lot is in
 abbrev pub MayEnd : Desk → Type 0
@@ -55,7 +64,7 @@ Full D = head D.lots + max_commands < D.line
 
 -- the cells of a trail that serves every table
 abbrev pub max_trail : ℕ
-max_trail = max_lots * max_lots + max_lots
+max_trail = trail_cells max_lots
 
 -- a search of the plan under the budget B, with a trail and a place for starts that serve every table; us is what the place holds after
 abbrev pub Searched : Meaning → Table → ℕ → List ℕ → Result Search Refusal → Type 0
@@ -84,10 +93,7 @@ Refuses m D (solve B) e = (us : List ℕ) × Searched m D.plan B us (Err e)
 abbrev pub after : Desk → Line → Table → Desk
 after D (machine C n) Q = record { line = suc D.line; lots = n; names = []; plan = Q }
 after D (name w) Q = record { line = suc D.line; lots = D.lots; names = D.names ++ w ∷ []; plan = Q }
-after D (lot i x) Q = record { line = suc D.line; lots = D.lots; names = D.names; plan = Q }
-after D (narrow i from to) Q = record { line = suc D.line; lots = D.lots; names = D.names; plan = Q }
-after D tighten Q = record { line = suc D.line; lots = D.lots; names = D.names; plan = Q }
-after D (solve B) Q = record { line = suc D.line; lots = D.lots; names = D.names; plan = Q }
+after D l Q = record { line = suc D.line; lots = D.lots; names = D.names; plan = Q }
 
 -- the lines bs, from the one that is due at the desk D on, print out
 pub data Prints (m : Meaning) : Desk → List ℕ → List ℕ → Type 0 where
@@ -100,7 +106,7 @@ pub data Prints (m : Meaning) : Desk → List ℕ → List ℕ → Type 0 where
 -- the print of a sheet
 abbrev pub PrintOf : Meaning → List ℕ → List ℕ → Type 0
 PrintOf m sheet out =
-    ((max_sheet < length sheet) × (out ≡ refusal_print refusal.SheetLength 0))
+    ((max_sheet < length sheet) × (out ≡ refusal_print refusal.SheetLength whole_sheet))
     ⊎ ((length sheet ≤ max_sheet) × Prints m new_desk sheet out)
 
 -- each sheet has exactly one print, and it fits the buffer

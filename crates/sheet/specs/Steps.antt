@@ -4,7 +4,7 @@ use Rattle.lots.specs.declared.Refusal.{Refusal}
 use Rattle.rule.specs.Meanings.{Meaning}
 use Rattle.plan.specs.Tables.{Table}
 use Rattle.sheet.specs.Lines.{Line, Bounded}
-use Rattle.sheet.specs.Prints.{refusal_print}
+use Rattle.sheet.specs.PrintLines.{refusal_print}
 use Rattle.sheet.specs.Runs.{Desk, Due, Begins, Full, Runs, Refuses, after, Prints}
 use Rattle.sheet.specs.Desks.{Orderly, RoomFor}
 use Rattle.sheet.specs.Pages.{Adds}

@@ -5,7 +5,7 @@ ghost use Rattle.rule.specs.Meanings.{Meaning};
 ghost use Rattle.sheet.specs.Desks.{HasLine};
 ghost use Rattle.sheet.specs.Lines.{machine, name as named, lot as lot_line, narrow as narrow_line, tighten as tighten_line, solve as solve_line};
 ghost use Rattle.sheet.specs.Pages.{HasRoom};
-ghost use Rattle.sheet.specs.Prints.{narrow_print};
+ghost use Rattle.sheet.specs.PrintLines.{narrow_print};
 ghost use Rattle.sheet.specs.Runs.{new_desk, head, Due, MayEnd, Full};
 ghost use Rattle.sheet.specs.Said.{said};
 ghost use Rattle.sheet.specs.Steps.{Ready, Ran};
@@ -19,11 +19,10 @@ use lots::{Lot, MAX_LOTS, Refusal};
 use plan::Plan;
 use rule::Rule;
 use std::marker::Model;
+use tree::MAX_TRAIL;
 
 // The most commands of a sheet.
 const MAX_COMMANDS: u32 = 8;
-// The cells of a trail that serves every table.
-const MAX_TRAIL: usize = MAX_LOTS * MAX_LOTS + MAX_LOTS;
 
 #[derive(Drop)]
 pub(crate) struct Desk<'a> {
@@ -47,7 +46,7 @@ impl<'a> Model for Desk<'a> {
 
 impl<'a> Desk<'a> {
     pub fn new() -> Desk<'a>
-        ensures { result ≡ new_desk }
+        ensures answer { result ≡ new_desk }
     {
         Desk {
             line: 1,
@@ -59,28 +58,28 @@ impl<'a> Desk<'a> {
 
     // The number of the line that is due.
     pub fn line(&self) -> u32
-        ensures { result ≡ self.now.line }
+        ensures answer { result ≡ self.now.line }
     {
         self.line
     }
 
     // Whether the sheet may end here.
     pub fn may_end(&self) -> bool
-        ensures { IsTrue result ↔ MayEnd self.now }
+        ensures answer { IsTrue result ↔ MayEnd self.now }
     {
         self.line > self.head()
     }
 
     // Whether all commands that a sheet may have were run.
     pub fn is_full(&self) -> bool
-        ensures { IsTrue result ↔ Full self.now }
+        ensures answer { IsTrue result ↔ Full self.now }
     {
         self.line.saturating_sub(self.head()) > MAX_COMMANDS
     }
 
     // Whether the line is of the form that is due.
     pub fn is_due(&self, line: &Line<'_>) -> bool
-        ensures { IsTrue result ↔ Due self.now (said line.now) }
+        ensures answer { IsTrue result ↔ Due self.now (said line.now) }
     {
         let lots = u32::from(self.lots);
         match *line {
@@ -97,7 +96,7 @@ impl<'a> Desk<'a> {
 
     // The lines before the first command: the machine, a name for each lot, and the lots.
     fn head(&self) -> u32
-        ensures { result ≡ head self.now.lots }
+        ensures answer { result ≡ head self.now.lots }
     {
         1 + 2 * u32::from(self.lots)
     }
@@ -109,7 +108,7 @@ impl<'a> Desk<'a> {
         line: Line<'a>,
         page: &mut Page<'_>,
     ) -> Result<(), Refusal>
-        requires { Ready self.old (said line) page.old }
+        requires ready { Ready self.old (said line) page.old }
         ensures same_buffer { page.new.buffer.ghost_name ≡ page.old.buffer.ghost_name }
         ensures ran { Ran (R.meaning rule.now) self.old (said line.entry) self.new page.old page.new result }
     {
@@ -124,8 +123,8 @@ impl<'a> Desk<'a> {
     }
 
     fn open(&mut self, capacity: u16, lots: u16) -> Result<(), Refusal>
-        requires { HasLine self.old }
-        ensures { (m : Meaning) (p : Page) → Ran m self.old (machine capacity lots) self.new p p result }
+        requires has_line { HasLine self.old }
+        ensures answer { (m : Meaning) (p : Page) → Ran m self.old (machine capacity lots) self.new p p result }
     {
         self.plan.open(capacity)?;
         self.lots = lots;
@@ -135,9 +134,9 @@ impl<'a> Desk<'a> {
     }
 
     fn name(&mut self, name: &'a [u8]) -> Result<(), Refusal>
-        requires time { HasLine self.old }
+        requires has_line { HasLine self.old }
         requires few { length self.old.names < max_lots }
-        ensures { (m : Meaning) (p : Page) → Ran m self.old (named name.now) self.new p p result }
+        ensures answer { (m : Meaning) (p : Page) → Ran m self.old (named name.now) self.new p p result }
     {
         self.names.push(name);
         self.line += 1;
@@ -145,8 +144,8 @@ impl<'a> Desk<'a> {
     }
 
     fn admit(&mut self, lot: Lot) -> Result<(), Refusal>
-        requires { HasLine self.old }
-        ensures { (m : Meaning) (i : ℕ) (p : Page) → Ran m self.old (lot_line i lot) self.new p p result }
+        requires has_line { HasLine self.old }
+        ensures answer { (m : Meaning) (i : ℕ) (p : Page) → Ran m self.old (lot_line i lot) self.new p p result }
     {
         self.plan.admit(lot)?;
         self.line += 1;
@@ -154,7 +153,7 @@ impl<'a> Desk<'a> {
     }
 
     fn narrow(&mut self, lot: u16, from: u16, to: u16, page: &mut Page<'_>) -> Result<(), Refusal>
-        requires time { HasLine self.old }
+        requires has_line { HasLine self.old }
         requires room { HasRoom page.old narrow_print }
         ensures same_buffer { page.new.buffer.ghost_name ≡ page.old.buffer.ghost_name }
         ensures ran { (m : Meaning) → Ran m self.old (narrow_line lot from to) self.new page.old page.new result }
@@ -166,7 +165,7 @@ impl<'a> Desk<'a> {
     }
 
     fn tighten<R: Rule>(&mut self, rule: &R, page: &mut Page<'_>) -> Result<(), Refusal>
-        requires { Ready self.old tighten_line page.old }
+        requires ready { Ready self.old tighten_line page.old }
         ensures same_buffer { page.new.buffer.ghost_name ≡ page.old.buffer.ghost_name }
         ensures ran { Ran (R.meaning rule.now) self.old tighten_line self.new page.old page.new result }
     {
@@ -177,7 +176,7 @@ impl<'a> Desk<'a> {
     }
 
     fn solve<R: Rule>(&mut self, rule: &R, budget: u32, page: &mut Page<'_>) -> Result<(), Refusal>
-        requires { Ready self.old (solve_line budget) page.old }
+        requires ready { Ready self.old (solve_line budget) page.old }
         ensures same_buffer { page.new.buffer.ghost_name ≡ page.old.buffer.ghost_name }
         ensures ran { Ran (R.meaning rule.now) self.old (solve_line budget) self.new page.old page.new result }
     {

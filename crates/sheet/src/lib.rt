@@ -11,7 +11,7 @@ mod runs;
 mod token;
 
 pub use promise::each_sheet_has_one_print;
-pub use runs::run;
+pub use runs::{MAX_SHEET, MIN_PRINT, run};
 
 #[cfg(test)]
 mod tests;

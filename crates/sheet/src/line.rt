@@ -1,6 +1,6 @@
 // The lines of a sheet.
-ghost use Rattle.sheet.specs.Lines.{Takes, BeginsBy};
 ghost use Rattle.sheet.specs.Said.{said};
+ghost use Rattle.sheet.specs.Words.{Takes, BeginsBy};
 
 use crate::reader::Reader;
 use lots::{Lot, MAX_LOTS};
@@ -19,7 +19,7 @@ pub(crate) enum Line<'a> {
 impl<'a> Line<'a> {
     // The line that begins with the letter and goes on with the words.
     pub fn read(letter: char, words: &mut Reader<'a>) -> Option<Line<'a>>
-        ensures { Takes said (BeginsBy letter words.old) result words.new }
+        ensures answer { Takes said (BeginsBy letter words.old) result words.new }
     {
         match letter {
             'C' => {

@@ -1,6 +1,6 @@
 // A page: the print so far, at the front of a lent buffer.
-ghost use Rattle.std.specs.Prelude.{◌≡◌, ◌+◌, ◌≤◌, length, decimal};
-ghost use Rattle.sheet.specs.Lines.{numbers as written_numbers};
+ghost use Rattle.std.specs.Prelude.{◌≡◌, ◌+◌, decimal};
+ghost use Rattle.lots.specs.Texts.{numbers as written_numbers};
 ghost use Rattle.sheet.specs.Pages.{Adds, HasRoom};
 
 use itoa::Buffer;
@@ -22,13 +22,13 @@ impl<'a> Page<'a> {
 
     // How many bytes are printed.
     pub(crate) fn len(&self) -> usize
-        ensures { result ≡ self.now.len }
+        ensures answer { result ≡ self.now.len }
     {
         self.len
     }
 
     pub(crate) fn put(&mut self, bytes: &[u8])
-        requires { HasRoom self.old bytes.now }
+        requires room { HasRoom self.old bytes.now }
         ensures same_buffer { self.new.buffer.ghost_name ≡ self.old.buffer.ghost_name }
         ensures adds { Adds self.old bytes.now self.new }
     {
@@ -38,7 +38,7 @@ impl<'a> Page<'a> {
     }
 
     fn put_number(&mut self, number: u32)
-        requires { HasRoom self.old (decimal number) }
+        requires room { HasRoom self.old (decimal number) }
         ensures same_buffer { self.new.buffer.ghost_name ≡ self.old.buffer.ghost_name }
         ensures adds { Adds self.old (decimal number) self.new }
     {
@@ -47,7 +47,7 @@ impl<'a> Page<'a> {
 
     // Each number after a space.
     pub(crate) fn put_numbers(&mut self, numbers: &[u32])
-        requires { HasRoom self.old (written_numbers numbers.now) }
+        requires room { HasRoom self.old (written_numbers numbers.now) }
         ensures same_buffer { self.new.buffer.ghost_name ≡ self.old.buffer.ghost_name }
         ensures adds { Adds self.old (written_numbers numbers.now) self.new }
     {

@@ -1,8 +1,8 @@
 // What is printed for each command, and for a refusal.
-ghost use Rattle.std.specs.Prelude.{◌≡◌, ◌≤◌, ◌++◌, length, codes, take};
-ghost use Rattle.sheet.specs.Lines.{numbers as written_numbers};
+ghost use Rattle.std.specs.Prelude.{◌≡◌, ◌++◌, length, codes, take};
+ghost use Rattle.lots.specs.Texts.{numbers as written_numbers};
 ghost use Rattle.sheet.specs.Pages.{Adds, HasRoom, bytes_of};
-ghost use Rattle.sheet.specs.Prints.{ended, narrow_print, tighten_print, window_lines, start_lines, solve_print, refusal_print};
+ghost use Rattle.sheet.specs.PrintLines.{ended, narrow_print, tighten_print, window_lines, start_lines, solve_print, refusal_print};
 
 use crate::page::Page;
 use lots::{Lot, Refusal};
@@ -10,7 +10,7 @@ use rule::Verdict;
 use tree::Search;
 
 pub(crate) fn print_narrow(page: &mut Page<'_>)
-    requires { HasRoom page.old narrow_print }
+    requires room { HasRoom page.old narrow_print }
     ensures same_buffer { page.new.buffer.ghost_name ≡ page.old.buffer.ghost_name }
     ensures adds { Adds page.old narrow_print page.new }
 {
@@ -18,7 +18,7 @@ pub(crate) fn print_narrow(page: &mut Page<'_>)
 }
 
 pub(crate) fn print_refusal(page: &mut Page<'_>, refusal: Refusal, line: u32)
-    requires { HasRoom page.old (refusal_print refusal line) }
+    requires room { HasRoom page.old (refusal_print refusal line) }
     ensures same_buffer { page.new.buffer.ghost_name ≡ page.old.buffer.ghost_name }
     ensures adds { Adds page.old (refusal_print refusal line) page.new }
 {
@@ -33,7 +33,7 @@ pub(crate) fn print_tighten(
     names: &[&[u8]],
     lots: &[Lot],
 )
-    requires { HasRoom page.old (tighten_print verdict applications (bytes_of names.now) lots.now) }
+    requires room { HasRoom page.old (tighten_print verdict applications (bytes_of names.now) lots.now) }
     ensures same_buffer { page.new.buffer.ghost_name ≡ page.old.buffer.ghost_name }
     ensures adds { Adds page.old (tighten_print verdict applications (bytes_of names.now) lots.now) page.new }
 {
@@ -47,7 +47,7 @@ pub(crate) fn print_tighten(
 
 // What a search answers, and the starts of the best schedule, the first of those in `starts`.
 pub(crate) fn print_solve(page: &mut Page<'_>, answer: Search, names: &[&[u8]], starts: &[u16])
-    requires { HasRoom page.old (solve_print answer (bytes_of names.now) starts.now) }
+    requires room { HasRoom page.old (solve_print answer (bytes_of names.now) starts.now) }
     ensures same_buffer { page.new.buffer.ghost_name ≡ page.old.buffer.ghost_name }
     ensures adds { Adds page.old (solve_print answer (bytes_of names.now) starts.now) page.new }
 {
@@ -62,7 +62,7 @@ pub(crate) fn print_solve(page: &mut Page<'_>, answer: Search, names: &[&[u8]], 
 }
 
 fn print_windows(page: &mut Page<'_>, names: &[&[u8]], lots: &[Lot])
-    requires { HasRoom page.old (window_lines (bytes_of names.now) lots.now) }
+    requires room { HasRoom page.old (window_lines (bytes_of names.now) lots.now) }
     ensures same_buffer { page.new.buffer.ghost_name ≡ page.old.buffer.ghost_name }
     ensures adds { Adds page.old (window_lines (bytes_of names.now) lots.now) page.new }
 {
@@ -72,7 +72,7 @@ fn print_windows(page: &mut Page<'_>, names: &[&[u8]], lots: &[Lot])
 }
 
 fn print_starts(page: &mut Page<'_>, names: &[&[u8]], starts: &[u16])
-    requires { HasRoom page.old (start_lines (bytes_of names.now) (take (length names.now) starts.now)) }
+    requires room { HasRoom page.old (start_lines (bytes_of names.now) (take (length names.now) starts.now)) }
     ensures same_buffer { page.new.buffer.ghost_name ≡ page.old.buffer.ghost_name }
     ensures adds { Adds page.old (start_lines (bytes_of names.now) (take (length names.now) starts.now)) page.new }
 {
@@ -83,7 +83,7 @@ fn print_starts(page: &mut Page<'_>, names: &[&[u8]], starts: &[u16])
 
 // A line of a word and some numbers.
 fn print_numbers(page: &mut Page<'_>, word: &[u8], numbers: &[u32])
-    requires { HasRoom page.old (ended (word.now ++ written_numbers numbers.now)) }
+    requires room { HasRoom page.old (ended (word.now ++ written_numbers numbers.now)) }
     ensures same_buffer { page.new.buffer.ghost_name ≡ page.old.buffer.ghost_name }
     ensures adds { Adds page.old (ended (word.now ++ written_numbers numbers.now)) page.new }
 {
@@ -94,7 +94,7 @@ fn print_numbers(page: &mut Page<'_>, word: &[u8], numbers: &[u32])
 
 // A line of a word, some numbers and a name.
 fn print_named(page: &mut Page<'_>, word: &[u8], numbers: &[u32], name: &[u8])
-    requires { HasRoom page.old (ended (word.now ++ (written_numbers numbers.now ++ (codes " " ++ name.now)))) }
+    requires room { HasRoom page.old (ended (word.now ++ (written_numbers numbers.now ++ (codes " " ++ name.now)))) }
     ensures same_buffer { page.new.buffer.ghost_name ≡ page.old.buffer.ghost_name }
     ensures adds { Adds page.old (ended (word.now ++ (written_numbers numbers.now ++ (codes " " ++ name.now)))) page.new }
 {

@@ -1,7 +1,8 @@
 // Reads a sheet line by line.
 ghost use Rattle.std.specs.Prelude.{◌≡◌, ℕ, ◌≤◌, ◌↔◌, IsTrue, List, [], ◌∷◌, length, MatchOption};
-ghost use Rattle.sheet.specs.Lines.{Line as AnyLine, BeginsWithLine, BeginsWithNumber, BeginsWithNumbers, BeginsWithName, Takes, newline};
+ghost use Rattle.sheet.specs.Lines.{Line as AnyLine, BeginsWithLine, newline};
 ghost use Rattle.sheet.specs.Said.{said};
+ghost use Rattle.sheet.specs.Words.{BeginsWithNumber, BeginsWithNumbers, BeginsWithName, Takes};
 
 use crate::line::Line;
 use crate::token::Token;
@@ -26,20 +27,20 @@ impl<'a> Model for Reader<'a> {
 
 impl<'a> Reader<'a> {
     pub fn new(sheet: &'a [u8]) -> Reader<'a>
-        ensures { result ≡ sheet.now }
+        ensures answer { result ≡ sheet.now }
     {
         Reader { sheet, at: 0 }
     }
 
     pub fn is_at_end(&self) -> bool
-        ensures { IsTrue result ↔ (self.now ≡ []) }
+        ensures answer { IsTrue result ↔ (self.now ≡ []) }
     {
         self.at == self.sheet.len()
     }
 
     // The next line. Where none comes next, nothing is read.
     pub fn line(&mut self) -> Option<Line<'a>>
-        ensures { MatchOption result (((l : AnyLine) (rest : List ℕ) → BeginsWithLine self.old l rest → ⊥) × (self.new ≡ self.old)) (λ l. BeginsWithLine self.old (said l) self.new) }
+        ensures answer { MatchOption result (((l : AnyLine) (rest : List ℕ) → BeginsWithLine self.old l rest → ⊥) × (self.new ≡ self.old)) (λ l. BeginsWithLine self.old (said l) self.new) }
     {
         let mut ahead = Reader {
             sheet: self.sheet,
@@ -53,7 +54,7 @@ impl<'a> Reader<'a> {
     }
 
     fn letter(&mut self) -> Option<char>
-        ensures { MatchOption result (self.old ≡ []) (λ c. self.old ≡ c ∷ self.new) }
+        ensures answer { MatchOption result (self.old ≡ []) (λ c. self.old ≡ c ∷ self.new) }
     {
         let token = Token::command(self.sheet, self.at)?;
         self.at = token.end();
@@ -61,7 +62,7 @@ impl<'a> Reader<'a> {
     }
 
     fn end_line(&mut self) -> Option<()>
-        ensures { MatchOption result ((rest : List ℕ) → self.old ≡ newline ∷ rest → ⊥) (λ _. self.old ≡ newline ∷ self.new) }
+        ensures answer { MatchOption result ((rest : List ℕ) → self.old ≡ newline ∷ rest → ⊥) (λ _. self.old ≡ newline ∷ self.new) }
     {
         if *self.sheet.get(self.at)? != b'\n' {
             return None;
@@ -72,7 +73,7 @@ impl<'a> Reader<'a> {
 
     // A number after a space.
     pub fn number(&mut self) -> Option<u32>
-        ensures { Takes (λ n. n) (BeginsWithNumber self.old) result self.new }
+        ensures answer { Takes (λ n. n) (BeginsWithNumber self.old) result self.new }
     {
         let token = Token::number(self.sheet, self.at)?;
         self.at = token.end();
@@ -81,7 +82,7 @@ impl<'a> Reader<'a> {
 
     // Numbers of 16 bits, each after a space.
     pub fn numbers<const N: usize>(&mut self) -> Option<[u16; N]>
-        ensures { Takes (λ ns. ns) (BeginsWithNumbers N self.old) result self.new }
+        ensures answer { Takes (λ ns. ns) (BeginsWithNumbers N self.old) result self.new }
     {
         let mut numbers = [0; N];
         for slot in numbers.iter_mut() {
@@ -92,7 +93,7 @@ impl<'a> Reader<'a> {
 
     // A name after a space.
     pub fn name(&mut self) -> Option<&'a [u8]>
-        ensures { Takes (λ w. w.now) (BeginsWithName self.old) result self.new }
+        ensures answer { Takes (λ w. w.now) (BeginsWithName self.old) result self.new }
     {
         let token = Token::name(self.sheet, self.at)?;
         self.at = token.end();

@@ -1,6 +1,6 @@
 // A sheet is run line by line, and what its commands answer is printed.
 ghost use Rattle.std.specs.Prelude.{◌≡◌, ℕ, ◌≤◌, List, [], length, IfOk};
-ghost use Rattle.sheet.specs.Desks.{Orderly, InTime, RoomFor};
+ghost use Rattle.sheet.specs.Desks.{Orderly, RoomFor};
 ghost use Rattle.sheet.specs.Pages.{Adds};
 ghost use Rattle.sheet.specs.Runs.{new_desk, MayEnd, Prints, PrintOf, Printed};
 ghost use Rattle.sheet.specs.Steps.{Took};
@@ -9,8 +9,15 @@ use crate::desk::Desk;
 use crate::page::Page;
 use crate::print::print_refusal;
 use crate::reader::Reader;
-use lots::{MAX_SHEET, MIN_PRINT, Refusal};
+use lots::Refusal;
 use rule::Rule;
+
+// The most bytes that a sheet may have.
+pub const MAX_SHEET: usize = 16_384;
+// The fewest bytes that a buffer for the print of a sheet may have.
+pub const MIN_PRINT: usize = 32_768;
+// The line number of a refusal of the whole sheet.
+const WHOLE_SHEET: u32 = 0;
 
 // Runs the lines of the sheet in order, and answers the length of its print. The rule is what tightens and searches its plan.
 pub fn run<R: Rule>(rule: &R, sheet: &[u8], print: &mut [u8]) -> Result<usize, Refusal>
@@ -26,19 +33,19 @@ pub fn run<R: Rule>(rule: &R, sheet: &[u8], print: &mut [u8]) -> Result<usize, R
 }
 
 fn run_sheet<R: Rule>(rule: &R, sheet: &[u8], page: &mut Page<'_>)
-    requires { RoomFor new_desk page.old }
+    requires room { RoomFor new_desk page.old }
     ensures same_buffer { page.new.buffer.ghost_name ≡ page.old.buffer.ghost_name }
     ensures adds { (out : List ℕ) × PrintOf (R.meaning rule.now) sheet.now out × Adds page.old out page.new }
 {
     if sheet.len() > MAX_SHEET {
-        return print_refusal(page, Refusal::SheetLength, 0);
+        return print_refusal(page, Refusal::SheetLength, WHOLE_SHEET);
     }
     run_lines(rule, sheet, page);
 }
 
 // Runs line after line, until the sheet ends or one is refused.
 fn run_lines<R: Rule>(rule: &R, sheet: &[u8], page: &mut Page<'_>)
-    requires { RoomFor new_desk page.old }
+    requires room { RoomFor new_desk page.old }
     ensures same_buffer { page.new.buffer.ghost_name ≡ page.old.buffer.ghost_name }
     ensures adds { (out : List ℕ) × Prints (R.meaning rule.now) new_desk sheet.now out × Adds page.old out page.new }
 {

@@ -1,6 +1,6 @@
 // What sheets print, with the rule that does nothing.
-use super::run;
-use lots::{MAX_SHEET, MIN_PRINT, Refusal};
+use super::{MAX_SHEET, MIN_PRINT, run};
+use lots::Refusal;
 use rule::Idle;
 
 // Marks the bytes of a buffer that were not written.
@@ -42,7 +42,7 @@ fn with_lots(rt: HostRuntime) {
 }
 
 #[test]
-fn names_are_printed_bytes(rt: HostRuntime) {
+fn names_are_printable_bytes(rt: HostRuntime) {
     assert!(rt; prints(b"C 1 1\nN   \nB 0 0 5 1 1\nT\n", b"T still 1\nW 0 5   \n"));
     assert!(rt;
         prints(

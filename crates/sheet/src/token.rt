@@ -1,17 +1,19 @@
 // The words of a sheet.
-ghost use Rattle.std.specs.Prelude.{◌≡◌, ℕ, ◌+◌, ◌^◌, ◌<◌, ◌≤◌, ◌≢◌, List, length, drop, slice_index, slice_index_or, MatchOption, ◌↔◌, IsTrue, decimal};
+ghost use Rattle.std.specs.Prelude.{◌≡◌, ◌+◌, ◌^◌, ◌<◌, ◌≤◌, ◌≢◌, length, drop, slice_index, slice_index_or, MatchOption, ◌↔◌, IsTrue, decimal};
 ghost use Rattle.std.specs.Char.{IsAsciiDigit};
-ghost use Rattle.sheet.specs.Lines.{Printed, Reads, space, max_budget};
-ghost use Rattle.sheet.specs.Words.{Run, CommandAt, NumberAt, NameAt, end_of, Letter, Numeral, Called, BeginsNumeral};
+ghost use Rattle.lots.specs.Texts.{Reads, space};
+ghost use Rattle.sheet.specs.Lines.{Printable, max_budget};
+ghost use Rattle.sheet.specs.Words.{Stretch, CommandAt, NumberAt, NameAt, end_of, Letter, Numeral, Called, BeginsNumeral};
 
 use std::str::from_utf8;
 
-// The most bytes of a name, and the bytes that one may have.
+// The most bytes of a name.
 const MAX_NAME: usize = 24;
 
-const FIRST_PRINTED: u8 = 32;
+// The bytes that a name may have.
+const FIRST_PRINTABLE: u8 = 32;
 
-const LAST_PRINTED: u8 = 126;
+const LAST_PRINTABLE: u8 = 126;
 
 // A part of the sheet, and its place there.
 #[derive(Clone, Copy)]
@@ -24,7 +26,7 @@ pub(crate) enum Token<'a> {
 impl<'a> Token<'a> {
     // The command at a place.
     pub fn command(sheet: &'a [u8], at: usize) -> Option<Token<'a>>
-        ensures { MatchOption result (length sheet.now ≤ at) (CommandAt sheet.now at) }
+        ensures answer { MatchOption result (length sheet.now ≤ at) (CommandAt sheet.now at) }
     {
         sheet
             .get(at)
@@ -33,24 +35,24 @@ impl<'a> Token<'a> {
 
     // The number word after the space at a place: as many digits as stand there.
     pub fn number(sheet: &'a [u8], at: usize) -> Option<Token<'a>>
-        ensures { MatchOption result (slice_index_or sheet.now at 0 ≢ space) (NumberAt sheet.now at) }
+        ensures answer { MatchOption result (slice_index_or sheet.now at 0 ≢ space) (NumberAt sheet.now at) }
     {
         let rest = after_space(sheet, at)?;
         Some(Token::Number(&rest[..digits(rest)], at + 1))
     }
 
-    // The name after the space at a place: as many printed bytes as stand there.
+    // The name after the space at a place: as many printable bytes as stand there.
     pub fn name(sheet: &'a [u8], at: usize) -> Option<Token<'a>>
-        ensures { MatchOption result (slice_index_or sheet.now at 0 ≢ space) (NameAt sheet.now at) }
+        ensures answer { MatchOption result (slice_index_or sheet.now at 0 ≢ space) (NameAt sheet.now at) }
     {
         let rest = after_space(sheet, at)?;
-        Some(Token::Name(&rest[..printed(rest)], at + 1))
+        Some(Token::Name(&rest[..printable(rest)], at + 1))
     }
 
     // The place after it.
     pub fn end(&self) -> usize
-        requires { end_of self.now < 2 ^ 64 }
-        ensures { result ≡ end_of self.now }
+        requires fits { end_of self.now < 2 ^ 64 }
+        ensures answer { result ≡ end_of self.now }
     {
         match self {
             Token::Name(bytes, at) | Token::Number(bytes, at) => *at + bytes.len(),
@@ -60,7 +62,7 @@ impl<'a> Token<'a> {
 
     // The letter of a command.
     pub fn letter(&self) -> Option<char>
-        ensures { Reads (Letter self.now) result }
+        ensures answer { Reads (Letter self.now) result }
     {
         match self {
             Token::Command(letter, _) => Some(*letter),
@@ -70,7 +72,7 @@ impl<'a> Token<'a> {
 
     // The number that a number word writes in decimal without leading zeros, where it fits.
     pub fn value(&self) -> Option<u32>
-        ensures { Reads (Numeral self.now) result }
+        ensures answer { Reads (Numeral self.now) result }
     {
         match self {
             Token::Number(digits, _) => numeral(digits),
@@ -80,7 +82,7 @@ impl<'a> Token<'a> {
 
     // The bytes of a name, where they are neither too few nor too many.
     pub fn called(&self) -> Option<&'a [u8]>
-        ensures { Reads (Called self.now) result }
+        ensures answer { Reads (Called self.now) result }
     {
         match self {
             Token::Name(name, _) if (1..=MAX_NAME).contains(&name.len()) => Some(*name),
@@ -91,7 +93,7 @@ impl<'a> Token<'a> {
 
 // What follows the space at a place.
 fn after_space(sheet: &[u8], at: usize) -> Option<&[u8]>
-    ensures { MatchOption result (slice_index_or sheet.now at 0 ≢ space) (λ rest. (at < length sheet.now) × (slice_index sheet.now at ≡ space) × (rest.now ≡ drop (at + 1) sheet.now)) }
+    ensures answer { MatchOption result (slice_index_or sheet.now at 0 ≢ space) (λ rest. (at < length sheet.now) × (slice_index sheet.now at ≡ space) × (rest.now ≡ drop (at + 1) sheet.now)) }
 {
     match sheet.get(at) {
         Some(b' ') => Some(&sheet[at + 1..]),
@@ -101,7 +103,7 @@ fn after_space(sheet: &[u8], at: usize) -> Option<&[u8]>
 
 // The number that the bytes write in decimal without leading zeros, where it fits.
 fn numeral(bytes: &[u8]) -> Option<u32>
-    ensures { Reads (λ n. (bytes.now ≡ decimal n) × (n ≤ max_budget)) result }
+    ensures answer { Reads (λ n. (bytes.now ≡ decimal n) × (n ≤ max_budget)) result }
 {
     // `parse` would take a plus sign and leading zeros.
     if !begins_numeral(bytes) {
@@ -112,14 +114,14 @@ fn numeral(bytes: &[u8]) -> Option<u32>
 
 // The bytes are the digit 0 alone, or begin with another digit.
 fn begins_numeral(bytes: &[u8]) -> bool
-    ensures { IsTrue result ↔ BeginsNumeral bytes.now }
+    ensures answer { IsTrue result ↔ BeginsNumeral bytes.now }
 {
     matches!(bytes, [b'0'] | [b'1'..=b'9', ..])
 }
 
 // How many digits the bytes begin with.
 fn digits(bytes: &[u8]) -> usize
-    ensures { Run IsAsciiDigit bytes.now result }
+    ensures answer { Stretch IsAsciiDigit bytes.now result }
 {
     bytes
         .iter()
@@ -127,12 +129,12 @@ fn digits(bytes: &[u8]) -> usize
         .unwrap_or(bytes.len())
 }
 
-// How many printed bytes the bytes begin with.
-fn printed(bytes: &[u8]) -> usize
-    ensures { Run Printed bytes.now result }
+// How many printable bytes the bytes begin with.
+fn printable(bytes: &[u8]) -> usize
+    ensures answer { Stretch Printable bytes.now result }
 {
     bytes
         .iter()
-        .position(|byte| !(FIRST_PRINTED..=LAST_PRINTED).contains(byte))
+        .position(|byte| !(FIRST_PRINTABLE..=LAST_PRINTABLE).contains(byte))
         .unwrap_or(bytes.len())
 }

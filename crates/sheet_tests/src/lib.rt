@@ -3,10 +3,9 @@
 
 #[cfg(test)]
 mod tests {
-    use lots::MIN_PRINT;
     use rule::Rule;
     use rules::{NotFirst, Overload, house_pile};
-    use sheet::run;
+    use sheet::{MIN_PRINT, run};
 
     // Whether the sheet prints just these bytes.
     fn prints<R: Rule>(rule: &R, sheet: &[u8], expected: &[u8]) -> bool {

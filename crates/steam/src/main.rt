@@ -2,8 +2,8 @@
 #![tactic(auto)]
 
 use anyhow::anyhow;
-use lots::{MAX_SHEET, MIN_PRINT};
 use rules::house_pile;
+use sheet::{MAX_SHEET, MIN_PRINT};
 use std::io::{Read, Write};
 
 fn main(rt: HostRuntime) -> anyhow::Result<()> {

@@ -2,6 +2,7 @@
 use Rattle.std.proofs.Common.{◌≡◌, ℕ, zero, suc, ◌+◌, ◌*◌, ◌≤◌, List, ◌∷◌, ◌++◌, length, take, drop, sym, refl, ap, ◌∙◌, subst, ap₂, add-mul, one-mul, add-one, mul-le-mul_right, arith}
 use Rattle.std.proofs.lemmas.List.{drop-take, take-take, drop_at, take_at, length-take-le}
 use Rattle.lots.specs.declared.Lot.{Lot}
+use Rattle.tree.specs.Answer.{trail_cells}
 use Rattle.tree.specs.Stack.{tables}
 
 suc_times : (d n : ℕ) → suc d * n ≡ d * n + n
@@ -12,7 +13,7 @@ tables_count n zero cells = refl
 tables_count n (suc d) cells = ap suc (tables_count n d cells)
 
 -- the table d lies in the cells
-pub inside : (n d len : ℕ) → d ≤ n → n * n + n ≤ len → d * n + n ≤ len
+pub inside : (n d len : ℕ) → d ≤ n → trail_cells n ≤ len → d * n + n ≤ len
 inside n d len h enough = omega (arith, mul-le-mul_right {m = d} {n = n} n h)
 
 -- the tables below a place are those of the cells before it

@@ -9,7 +9,7 @@ use Rattle.rule.specs.Meanings.{Meaning, Outcome, dead, to, Sound}
 use Rattle.rule.proofs.Chains.{narrower_keeps}
 use Rattle.rule.proofs.Schedules.{end_same}
 use Rattle.tree.specs.Tree.{ways, BestKnown, known, EndsBy, Leaves, Fixed, starts, Branch, left, right, Closes, barren, overfull, found, Visit, leaf, fork, final, Falling, Optimal, TreeLaw}
-use Rattle.tree.proofs.Ways.{ways_some, ways_fewer, load_after, left_lawful, right_lawful, left_work, right_work, left_narrower, right_narrower, ways_parts, parts, fixed_placed, fixed_only, fixed_or_branch}
+use Rattle.tree.proofs.Ways.{ways_some, ways_fewer, to_the_end, left_lawful, right_lawful, left_work, right_work, left_narrower, right_narrower, ways_parts, parts, fixed_placed, fixed_only, fixed_or_branch}
 use Rattle.tree.proofs.Nodes.{Below, below_trans, ends_by_or_not, Remains, leaves_remains, leaves_dead}
 use Rattle.tree.proofs.Outcomes.{leaves_some}
 use Rattle.tree.proofs.Once.{visit_same}
@@ -37,7 +37,7 @@ full_below C (suc n) U ss = elim (full_below C n U ss) [
 pub full_or_within : (C : ℕ) (U : List Lot) (ss : List ℕ) → ((t : ℕ) × (C < load t U ss)) ⊎ ((t : ℕ) → load t U ss ≤ C)
 full_or_within C U ss = elim (full_below C (end U ss) U ss) [
   | inl p ↦ inl p
-  | inr f ↦ inr (λ t. elim (cases_lt t (end U ss)) [ inl l ↦ f t l | inr l ↦ omega (arith, load_after t U ss l) ])
+  | inr f ↦ inr (to_the_end C U ss f)
 ]
 
 -- a closed node that leaves the best known as it was

@@ -3,9 +3,9 @@ use Rattle.std.proofs.Common.{◌≡◌, ◌≢◌, ℕ, ◌<◌, ◌≤◌, Boo
 use Rattle.std.proofs.lemmas.Bool.{false≢true}
 use Rattle.std.proofs.lemmas.List.Elements.{All-from_all_within, recursion_from_All}
 use Rattle.std.specs.List.{AllWithin, HoldsAt}
-use Rattle.std.proofs.ByRecursion.{All-from_get_or, All-get_or, All-weaker}
+use Rattle.std.proofs.ByRecursion.{All-from_get_or, All-get_or}
 use Rattle.lots.specs.Schedules.{load, end}
-use Rattle.lots.specs.Tables.{ect, lst, blank, lot_at, LawfulLot, Lawful}
+use Rattle.lots.specs.Tables.{ect, lst, blank, lot_at, Fits, LawfulLot, Lawful}
 use Rattle.lots.specs.declared.Lot.{Lot}
 use Rattle.lots.specs.declared.Refusal.{Refusal}
 use Rattle.rule.specs.Meanings.{Meaning, dead, to, Sound}
@@ -13,11 +13,8 @@ use Rattle.rule.specs.Settled.{none, Settled, Settles}
 use Rattle.rule.specs.declared.Verdict.{Verdict}
 use Rattle.rule.specs.declared.Verdict.TheVariants.{Still, Moved, Dead}
 use Rattle.rule.proofs.Chains.{settled_kept}
-use Rattle.tree.specs.Tree.{BestKnown, known, under, Fits, ComesTo, Leaves, late, tight, Fixed, starts, Closes, barren, overfull, found}
+use Rattle.tree.specs.Tree.{BestKnown, known, under, ComesTo, Leaves, late, tight, Fixed, starts, HasChoice, Closes, barren, overfull, found}
 use Rattle.tree.proofs.Nodes.{under_below}
-
-pub lawful_fits : (C : ℕ) (T : List Lot) → Lawful C T → Fits T
-lawful_fits C T ok = All-weaker (LawfulLot C) (λ x. ect x ≤ x.lct) (λ x l. l.has_time) T ok.each
 
 -- whether each run fits, as `all` answers it
 pub fits_decided : (T : List Lot) (r : Bool) → MatchBool r (AllWithin (λ x. ect x ≤ x.lct) T 0 (length T)) ((k : ℕ) × (k < length T) × HoldsAt (λ x. x.lct < ect x) T k) → IsTrue r ↔ Fits T
@@ -35,7 +32,7 @@ settles_ok m C T U (Ok x) ok s = refl
 settles_ok m C T U (Err e) ok s = absurd (s.0 ok)
 
 -- no lot has a choice of starts
-none_free : (C : ℕ) (U : List Lot) → Lawful C U → ((k : ℕ) → k < length U → lst (lot_at U k) ≤ (lot_at U k).est) → Fixed U
+none_free : (C : ℕ) (U : List Lot) → Lawful C U → ((k : ℕ) → k < length U → HasChoice (lot_at U k) → ⊥) → Fixed U
 none_free C U ok h = All-from_get_or (λ x. x.est ≡ lst x) U blank (λ i l. let f = All-get_or (LawfulLot C) U i blank l ok.each in omega (arith, h i l))
 
 -- V is the node T, once only an end before that of b is of use
@@ -57,7 +54,7 @@ module _ (m : Meaning) (sound : Sound m) (C : ℕ) (b : BestKnown) (T V : List L
       pub alive_leaves : Leaves m C b T (to U)
       alive_leaves = tight (subst Fits cut fits) (subst (λ W. ComesTo m C W (to U)) cut (settled_to m C V U v k alive s))
 
-      module _ (fixed : (j : ℕ) → j < length U → lst (lot_at U j) ≤ (lot_at U j).est) where
+      module _ (fixed : (j : ℕ) → j < length U → HasChoice (lot_at U j) → ⊥) where
         pub alive_found : (ss : List ℕ) (e : ℕ) → ss ≡ starts U → e ≡ end U (starts U) → ((t : ℕ) → load t U (starts U) ≤ C) → Closes m C b T (known ss e)
         alive_found ss e same ends within = subst (Closes m C b T) (sym (ap₂ known same ends)) (found alive_leaves (none_free C U alive_lawful fixed) within)
 

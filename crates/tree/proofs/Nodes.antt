@@ -4,13 +4,14 @@ use Rattle.std.proofs.lemmas.Bool.{cases_lt}
 use Rattle.std.proofs.lemmas.List.{length-map}
 use Rattle.std.specs.List.{AllByRecursion}
 use Rattle.lots.specs.Schedules.{end, Placed, Schedule}
-use Rattle.lots.specs.Tables.{ect, LawfulLot, Lawful}
+use Rattle.lots.proofs.Schedules.{placed_fits}
+use Rattle.lots.specs.Tables.{ect, Fits, LawfulLot, Lawful}
 use Rattle.lots.specs.declared.Lot.{Lot}
 use Rattle.rule.specs.Meanings.{Meaning, Outcome, dead, to, Gives, Dies, SameWork, Narrower, Hopeless, Sound}
 use Rattle.rule.proofs.Chains.{Chain, still, dies, Kept, placed_back, chain_kept, chain_dead, moves_then}
 use Rattle.rule.proofs.Schedules.{schedule_same}
 use Rattle.rule.specs.Laws.Tables.{same_work_refl, same_work_trans, narrower_refl, narrower_trans}
-use Rattle.tree.specs.Tree.{BestKnown, unknown, known, EndsBy, out_by, under, Fits, ComesTo, Leaves, late, tight}
+use Rattle.tree.specs.Tree.{BestKnown, unknown, known, EndsBy, out_by, under, ComesTo, Leaves, late, tight}
 
 -- U is lawful and of the same work as T, and no window is wider
 pub record Below (C : ℕ) (T U : List Lot) : Type 0 where
@@ -93,12 +94,6 @@ under_end (known rs e) T ss p k h = omega (arith, out_end (e - 1) T ss p)
 pub ends_by_or_not : (b : BestKnown) (k : ℕ) → EndsBy b k ⊎ (EndsBy b k → ⊥)
 ends_by_or_not unknown k = inr (λ h. h)
 ends_by_or_not (known ss e) k = elim (cases_lt k e) [ inl h ↦ inr (λ q. omega arith) | inr h ↦ inl h ]
-
--- starts are placed only where every run fits
-pub placed_fits : (T : List Lot) (ss : List ℕ) → Placed T ss → Fits T
-placed_fits [] ss p = tt
-placed_fits (x ∷ xs) [] p = absurd p
-placed_fits (x ∷ xs) (s ∷ ss) p = (omega arith, placed_fits xs ss p.1)
 
 pub fits_or_not : (T : List Lot) → Fits T ⊎ (Fits T → ⊥)
 fits_or_not [] = inl tt

@@ -11,9 +11,9 @@ use Rattle.tree.proofs.Outcomes.{leaves_same}
 -- there is one lot at most to branch on
 pub branch_same : (U : List Lot) (i j : ℕ) → Branch U i → Branch U j → i ≡ j
 branch_same U i j p q = elim (cases_lt i j) [
-  | inl h ↦ absurd (omega (arith, q.first i h p.free, p.earliest j q.inside q.free))
+  | inl h ↦ absurd (omega (arith, q.first i h p.choice, p.earliest j q.inside q.choice))
   | inr h ↦ elim (cases_lt j i) [
-    | inl k ↦ absurd (omega (arith, p.first j k q.free, q.earliest i p.inside p.free))
+    | inl k ↦ absurd (omega (arith, p.first j k q.choice, q.earliest i p.inside p.choice))
     | inr k ↦ omega arith
   ]
 ]
@@ -46,7 +46,7 @@ module _ (m : Meaning) (C : ℕ) where
   closes_same b _ _ T (found {U = U} n f w) (found {U = V} k g r) = ap found_best (table_same b T U V n k)
 
   fixed_apart : (b : BestKnown) (T U V : List Lot) (j : ℕ) → Leaves m C b T (to U) → Fixed U → Leaves m C b T (to V) → Branch V j → ⊥
-  fixed_apart b T U V j n f k br = fixed_none V j (subst Fixed (table_same b T U V n k) f) br.inside br.free
+  fixed_apart b T U V j n f k br = fixed_none V j (subst Fixed (table_same b T U V n k) f) br.inside br.choice
 
   closes_apart : (b x : BestKnown) (T V : List Lot) (j : ℕ) → Closes m C b T x → Leaves m C b T (to V) → Branch V j → ⊥
   closes_apart b _ T V j (barren n) k br = table_none b T V n k

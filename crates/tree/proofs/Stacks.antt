@@ -6,7 +6,7 @@ use Rattle.lots.specs.Tables.{ect, lst, lot_at, Lawful}
 use Rattle.lots.specs.declared.Lot.{Lot}
 use Rattle.rule.specs.Meanings.{Meaning, to, SameWork, Narrower, Sound}
 use Rattle.tree.specs.Stack.{free, Standing, Advances, closing, forking}
-use Rattle.tree.specs.Tree.{BestKnown, Leaves, Branch, left, right, Visit, leaf, fork, final}
+use Rattle.tree.specs.Tree.{BestKnown, Leaves, HasChoice, Branch, left, right, Visit, leaf, fork, final}
 use Rattle.tree.proofs.Ways.{right_work, right_narrower}
 use Rattle.tree.proofs.Nodes.{leaves_remains}
 use Rattle.tree.proofs.Law.{left_below, right_below, final_append}
@@ -21,7 +21,7 @@ free_fewer [] (y ∷ ys) w n = absurd w
 free_fewer (x ∷ xs) [] w n = absurd w
 free_fewer (x ∷ xs) (y ∷ ys) w n = omega (arith, free_one x y w.0.0 n.0.0 n.0.1, free_fewer xs ys w.1 n.1)
 
-free_left : (U : List Lot) (j : ℕ) → j < length U → (lot_at U j).est < lst (lot_at U j) → free (left j U) + 1 ≤ free U
+free_left : (U : List Lot) (j : ℕ) → j < length U → HasChoice (lot_at U j) → free (left j U) + 1 ≤ free U
 free_left [] j h f = absurd (omega arith)
 free_left (x ∷ xs) zero h f =
     let on : nat_lt x.est (lst x) ≡ true = grind (arith, nat_tests) in
@@ -40,7 +40,7 @@ module _ (m : Meaning) (sound : Sound m) (C : ℕ) where
       let here = (leaves_remains m sound C b T U ok n).below in
       let u = free_fewer T U here.work here.narrower in
       let r = free_fewer U (right j U) (right_work C U here.lawful j br) (right_narrower C U here.lawful j br) in
-      omega (arith, free_left U j br.inside br.free)
+      omega (arith, free_left U j br.inside br.choice)
 
   -- a visit leaves the stack standing
   pub standing_on : (n : ℕ) {b a : BestKnown} {Ts Us : List (List Lot)} → Advances m C b Ts a Us → Standing C n Ts → Standing C n Us

@@ -12,7 +12,7 @@ use Rattle.lots.specs.declared.Lot.{Lot}
 use Rattle.rule.specs.Meanings.{SameWork, Narrower}
 use Rattle.rule.proofs.Schedules.{schedule_same}
 use Rattle.rule.specs.Laws.Tables.{each_refl}
-use Rattle.tree.specs.Tree.{ways, Fixed, starts, Branch, at_once, a_minute_later, left, right}
+use Rattle.tree.specs.Tree.{ways, Fixed, starts, HasChoice, Branch, at_once, a_minute_later, left, right}
 
 pub ways_some : (T : List Lot) → 1 ≤ ways T
 ways_some [] = omega arith
@@ -31,6 +31,10 @@ load_after t (x ∷ xs) [] h = refl
 load_after t (x ∷ xs) (s ∷ ss) h =
     let out : spans s (s + x.p) t ≡ false = grind (arith, nat_tests) in
     ap₂ (λ b n. cond b x.c 0 + n) out (load_after t xs ss (omega arith))
+
+-- so a load that is within the capacity until then is so at every minute
+pub to_the_end : (C : ℕ) (T : List Lot) (ss : List ℕ) → ((t : ℕ) → t < end T ss → load t T ss ≤ C) → (t : ℕ) → load t T ss ≤ C
+to_the_end C T ss within t = elim (cases_lt t (end T ss)) [ inl h ↦ within t h | inr h ↦ omega (arith, load_after t T ss h) ]
 
 -- a table with the lot j changed
 set_each : (R : Lot → Lot → Type 0) → ((x : Lot) → R x x) → (T : List Lot) (j : ℕ) (y : Lot) → j < length T → R (lot_at T j) y → AllZip R T (set T j y)
@@ -53,7 +57,7 @@ set_narrower : (T : List Lot) (j : ℕ) (y : Lot) → j < length T → ((lot_at 
 set_narrower T j y h k = set_each _ (λ x. omega arith) T j y h k
 
 -- one start is the left node's, and all the others are the right node's
-ways_shared : (U : List Lot) (j : ℕ) → j < length U → (lot_at U j).est < lst (lot_at U j) → ways (left j U) + ways (right j U) ≡ ways U
+ways_shared : (U : List Lot) (j : ℕ) → j < length U → HasChoice (lot_at U j) → ways (left j U) + ways (right j U) ≡ ways U
 ways_shared [] j h f = absurd (omega arith)
 ways_shared (x ∷ xs) zero h f =
     let w = ways xs in
@@ -80,7 +84,7 @@ module _ (C : ℕ) (U : List Lot) (ok : Lawful C U) (j : ℕ) (b : Branch U j) w
   left_lawful = let h = lawful_here in set_lawful C U j (at_once (lot_at U j)) ok (omega arith)
 
   pub right_lawful : Lawful C (right j U)
-  right_lawful = let h = lawful_here in set_lawful C U j (a_minute_later (lot_at U j)) ok (omega (arith, b.free))
+  right_lawful = let h = lawful_here in set_lawful C U j (a_minute_later (lot_at U j)) ok (omega (arith, b.choice))
 
   pub left_work : SameWork U (left j U)
   left_work = set_work U j (at_once (lot_at U j)) b.inside (refl, refl)
@@ -95,7 +99,7 @@ module _ (C : ℕ) (U : List Lot) (ok : Lawful C U) (j : ℕ) (b : Branch U j) w
   right_narrower = set_narrower U j (a_minute_later (lot_at U j)) b.inside (omega arith)
 
   pub ways_parts : ways (left j U) + ways (right j U) ≡ ways U
-  ways_parts = ways_shared U j b.inside b.free
+  ways_parts = ways_shared U j b.inside b.choice
 
   -- every schedule is one of the left node or one of the right
   pub parts : (ss : List ℕ) → Schedule C U ss → Schedule C (left j U) ss ⊎ Schedule C (right j U) ss
@@ -116,37 +120,37 @@ fixed_only C (x ∷ xs) [] ok f p = absurd p
 fixed_only C (x ∷ xs) (s ∷ ss) ok f p = ap₂ ◌∷◌ (omega arith) (fixed_only C xs ss ok.1 f.1 p.1)
 
 -- and no lot is left to branch on
-pub fixed_none : (U : List Lot) (k : ℕ) → Fixed U → k < length U → (lot_at U k).est < lst (lot_at U k) → ⊥
+pub fixed_none : (U : List Lot) (k : ℕ) → Fixed U → k < length U → HasChoice (lot_at U k) → ⊥
 fixed_none U k f h e = let here : (lot_at U k).est ≡ lst (lot_at U k) = All-get_or (λ x. x.est ≡ lst x) U k _ h f in omega arith
 
--- the lots with est < lst have an est of e at least; and those before the lot j one above e
+-- the lots with a choice have an est of e at least; and those before the lot j one above e
 abbrev FreeFrom : List Lot → ℕ → Type 0
-FreeFrom U e = (k : ℕ) → k < length U → (lot_at U k).est < lst (lot_at U k) → e ≤ (lot_at U k).est
+FreeFrom U e = (k : ℕ) → k < length U → HasChoice (lot_at U k) → e ≤ (lot_at U k).est
 
 abbrev FreeAfter : List Lot → ℕ → ℕ → Type 0
-FreeAfter U j e = (k : ℕ) → k < j → (lot_at U k).est < lst (lot_at U k) → e < (lot_at U k).est
+FreeAfter U j e = (k : ℕ) → k < j → HasChoice (lot_at U k) → e < (lot_at U k).est
 
-free_from_more : (x : Lot) (xs : List Lot) (e : ℕ) → (x.est < lst x → e ≤ x.est) → FreeFrom xs e → FreeFrom (x ∷ xs) e
+free_from_more : (x : Lot) (xs : List Lot) (e : ℕ) → (HasChoice x → e ≤ x.est) → FreeFrom xs e → FreeFrom (x ∷ xs) e
 free_from_more x xs e here rest zero h f = here f
 free_from_more x xs e here rest (suc k) h f = rest k (omega arith) f
 
-free_after_more : (x : Lot) (xs : List Lot) (j e : ℕ) → (x.est < lst x → e < x.est) → FreeAfter xs j e → FreeAfter (x ∷ xs) (suc j) e
+free_after_more : (x : Lot) (xs : List Lot) (j e : ℕ) → (HasChoice x → e < x.est) → FreeAfter xs j e → FreeAfter (x ∷ xs) (suc j) e
 free_after_more x xs j e here rest zero h f = here f
 free_after_more x xs j e here rest (suc k) h f = rest k (omega arith) f
 
 -- one lot more in front: it is branched on, or it is not
-branch_here : (x : Lot) (xs : List Lot) → x.est < lst x → FreeFrom xs x.est → Branch (x ∷ xs) 0
+branch_here : (x : Lot) (xs : List Lot) → HasChoice x → FreeFrom xs x.est → Branch (x ∷ xs) 0
 branch_here x xs f rest = record {
   inside = omega arith;
-  free = f;
+  choice = f;
   earliest = free_from_more x xs x.est (λ _. omega arith) rest;
   first = λ k h. absurd (omega arith);
 }
 
-branch_further : (x : Lot) (xs : List Lot) (j : ℕ) → Branch xs j → (x.est < lst x → (lot_at xs j).est < x.est) → Branch (x ∷ xs) (suc j)
+branch_further : (x : Lot) (xs : List Lot) (j : ℕ) → Branch xs j → (HasChoice x → (lot_at xs j).est < x.est) → Branch (x ∷ xs) (suc j)
 branch_further x xs j b here = record {
   inside = omega (arith, b.inside);
-  free = b.free;
+  choice = b.choice;
   earliest = free_from_more x xs (lot_at xs j).est (λ f. omega (arith, here f)) b.earliest;
   first = free_after_more x xs j (lot_at xs j).est here b.first;
 }

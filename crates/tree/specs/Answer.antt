@@ -11,11 +11,15 @@ use Rattle.tree.specs.Tree.{BestKnown, unknown, known, Visit, final}
 use Rattle.tree.specs.declared.Search.{Search}
 use Rattle.tree.specs.declared.Search.TheVariants.{Best, None, Spent}
 
+-- the cells of a trail for n lots
+abbrev pub trail_cells : ℕ → ℕ
+trail_cells n = n * n + n
+
 -- for n lots, a budget of B nodes, a trail of so many cells and so many places for starts
 abbrev pub solve_checks : ℕ → ℕ → ℕ → ℕ → List Check
 solve_checks n B cells places =
     record { refusal = Budget; applies = B ≡ 0 }
-    ∷ record { refusal = Trail; applies = cells < n * n + n }
+    ∷ record { refusal = Trail; applies = cells < trail_cells n }
     ∷ record { refusal = Starts; applies = places < n }
     ∷ []
 

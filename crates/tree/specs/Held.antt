@@ -1,21 +1,21 @@
 -- What only the contracts of the private code speak of: what its structs stand for, and what its functions answer.
 use Rattle.std.specs.Prelude.{ℕ, ◌<◌, ◌≤◌, Bool, true, false, List, length, Some, None, Option}
 use Rattle.lots.specs.Schedules.{load}
-use Rattle.lots.specs.Tables.{lst, lot_at}
+use Rattle.lots.specs.Tables.{lot_at}
 use Rattle.lots.specs.declared.Lot.{Lot}
 use Rattle.rule.specs.Meanings.{Meaning, to}
-use Rattle.tree.specs.Tree.{BestKnown, unknown, known, Leaves, starts, Branch, Closes, Visit}
+use Rattle.tree.specs.Tree.{BestKnown, unknown, known, Leaves, starts, HasChoice, Branch, Closes, Visit}
 use Rattle.tree.specs.Stack.{tables, Stopped}
-use Rattle.tree.specs.declared.node.Schedule.{Schedule}
-use Rattle.tree.specs.declared.node.Node.{Node}
-use Rattle.tree.specs.declared.node.Node.TheVariants.{Closed, Found, Fork}
+use Rattle.tree.specs.declared.node.Known.{Known}
+use Rattle.tree.specs.declared.node.Fate.{Fate}
+use Rattle.tree.specs.declared.node.Fate.TheVariants.{Closed, Found, Fork}
 use Rattle.tree.specs.declared.trail.Trail.{Trail}
 use Rattle.tree.specs.declared.explore.Explored.{Explored}
 
--- the best known
-abbrev pub best_known : Option Schedule → BestKnown
+-- the best known, as the tree is defined by it
+abbrev pub best_known : Option Known → BestKnown
 best_known None = unknown
-best_known (Some s) = known s.starts.items s.end
+best_known (Some k) = known k.starts.items k.end
 
 -- whether the load of the lots, each at its est, is within the capacity C: at every minute, or not at some
 abbrev pub LoadWithin : ℕ → List Lot → Bool → Type 0
@@ -24,13 +24,13 @@ LoadWithin C T false = (t : ℕ) × (C < load t T (starts T))
 
 -- the lot to branch on, where some lot has a choice of starts
 abbrev pub BranchLot : List Lot → Option ℕ → Type 0
-BranchLot T None = (k : ℕ) → k < length T → lst (lot_at T k) ≤ (lot_at T k).est
+BranchLot T None = (k : ℕ) → k < length T → HasChoice (lot_at T k) → ⊥
 BranchLot T (Some j) = Branch T j
 
--- what the node T is, where b is the best known, and U what is left of it
-abbrev pub Seen : Meaning → ℕ → BestKnown → List Lot → List Lot → Node → Type 0
+-- what becomes of the node T, where b is the best known, and U what is left of it
+abbrev pub Seen : Meaning → ℕ → BestKnown → List Lot → List Lot → Fate → Type 0
 Seen m C b T U Closed = Closes m C b T b
-Seen m C b T U (Found s) = Closes m C b T (best_known (Some s))
+Seen m C b T U (Found k) = Closes m C b T (best_known (Some k))
 Seen m C b T U (Fork j) = Leaves m C b T (to U) × Branch U j
 
 -- the unvisited nodes on a trail, the last first

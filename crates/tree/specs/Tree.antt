@@ -1,7 +1,7 @@
 -- The tree of a search: its nodes, and the best schedule known after each.
 use Rattle.std.specs.Prelude.{◌≡◌, ℕ, suc, ◌+◌, ◌-◌, ◌*◌, ◌<◌, ◌≤◌, ◌⊎◌, min, List, [], ◌∷◌, ◌++◌, map, length, slice_set}
 use Rattle.std.specs.List.{AllByRecursion}
-use Rattle.lots.specs.Tables.{ect, lst, lot_at, Lawful}
+use Rattle.lots.specs.Tables.{ect, lst, lot_at, Fits, Lawful}
 use Rattle.lots.specs.Schedules.{load, Schedule, end}
 use Rattle.lots.specs.declared.Lot.{Lot}
 use Rattle.rule.specs.Meanings.{Outcome, Meaning, dead, to, Sound}
@@ -31,16 +31,12 @@ abbrev pub under : BestKnown → List Lot → List Lot
 under unknown T = T
 under (known ss e) T = map (out_by (e - 1)) T
 
--- every run fits its window
-abbrev pub Fits : List Lot → Type 0
-Fits T = AllByRecursion (λ x. ect x ≤ x.lct) T
-
 -- what a rule makes of T where it is applied until it is still or dead
 abbrev pub ComesTo : Meaning → ℕ → List Lot → Outcome → Type 0
 ComesTo m C T dead = (n : ℕ) × (W : List Lot) × Moves m C T n W × (m C W ≡ dead)
 ComesTo m C T (to U) = (n : ℕ) × Moves m C T n U × (m C U ≡ to U)
 
--- what is left of the node T, where b is the best known: nothing where a lot does not fit before the end of that
+-- what is left of the node T, where b is the best known: dead where a lot does not fit before its end, else what the rule makes of the lots cut under it
 pub data Leaves (m : Meaning) (C : ℕ) (b : BestKnown) (T : List Lot) : Outcome → Type 0 where
   late : (Fits (under b T) → ⊥) → Leaves m C b T dead
   tight : {o : Outcome} → Fits (under b T) → ComesTo m C (under b T) o → Leaves m C b T o
@@ -52,12 +48,16 @@ Fixed U = AllByRecursion (λ x. x.est ≡ lst x) U
 abbrev pub starts : List Lot → List ℕ
 starts U = map (λ x. x.est) U
 
--- the lot j is the one to branch on: of those with est < lst the first of the least est
+-- the lot x has a choice of starts
+abbrev pub HasChoice : Lot → Type 0
+HasChoice x = x.est < lst x
+
+-- the lot j is the one to branch on: of those with a choice of starts the first of the least est
 pub record Branch (U : List Lot) (j : ℕ) : Type 0 where
   pub inside : j < length U
-  pub free : (lot_at U j).est < lst (lot_at U j)
-  pub earliest : (k : ℕ) → k < length U → (lot_at U k).est < lst (lot_at U k) → (lot_at U j).est ≤ (lot_at U k).est
-  pub first : (k : ℕ) → k < j → (lot_at U k).est < lst (lot_at U k) → (lot_at U j).est < (lot_at U k).est
+  pub choice : HasChoice (lot_at U j)
+  pub earliest : (k : ℕ) → k < length U → HasChoice (lot_at U k) → (lot_at U j).est ≤ (lot_at U k).est
+  pub first : (k : ℕ) → k < j → HasChoice (lot_at U k) → (lot_at U j).est < (lot_at U k).est
 
 -- the lot x starts at its est, or a minute later at the earliest
 abbrev pub at_once : Lot → Lot

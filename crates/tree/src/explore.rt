@@ -2,13 +2,13 @@
 ghost use Rattle.std.specs.Prelude.{◌≡◌, ◌+◌, ◌-◌, ◌*◌, ◌<◌, ◌≤◌, ◌∷◌, length, IfOk};
 ghost use Rattle.lots.specs.Limits.{horizon};
 ghost use Rattle.lots.specs.Tables.{ect as earliest_end, lot_at};
-ghost use Rattle.tree.specs.Answer.{nodes as nodes_of, Solved, Right};
+ghost use Rattle.tree.specs.Answer.{nodes as nodes_of, trail_cells, Solved, Right};
 ghost use Rattle.tree.specs.Held.{best_known, unvisited, Explores};
 ghost use Rattle.tree.specs.Stack.{Standing, Advances};
 ghost use Rattle.tree.specs.Tree.{ways, at_once as starts_at_once, a_minute_later as starts_a_minute_later, left as left_of, right as right_of};
 
 use crate::Search;
-use crate::node::{Node, Schedule, look};
+use crate::node::{Fate, Known, look};
 use crate::trail::Trail;
 use arrayvec::ArrayVec;
 use lots::{Lot, MAX_LOTS, Refusal, Table};
@@ -17,15 +17,15 @@ use rule::Rule;
 // Where a search has stopped: the best known, the nodes visited, and whether one is unvisited.
 #[derive(Drop)]
 struct Explored {
-    best: Option<Schedule>,
+    best: Option<Known>,
     nodes: u32,
     open: bool,
 }
 
 // The lot, starting at its est.
 fn at_once(lot: Lot) -> Lot
-    requires { earliest_end lot ≤ horizon }
-    ensures { result ≡ starts_at_once lot }
+    requires in_week { earliest_end lot ≤ horizon }
+    ensures answer { result ≡ starts_at_once lot }
 {
     Lot {
         lct: lot.est + lot.p,
@@ -35,8 +35,8 @@ fn at_once(lot: Lot) -> Lot
 
 // The lot, starting after its est.
 fn a_minute_later(lot: Lot) -> Lot
-    requires { lot.est ≤ horizon }
-    ensures { result ≡ starts_a_minute_later lot }
+    requires in_week { lot.est ≤ horizon }
+    ensures answer { result ≡ starts_a_minute_later lot }
 {
     Lot {
         est: lot.est + 1,
@@ -66,24 +66,24 @@ fn visit<R: Rule>(
     capacity: u16,
     mut lots: ArrayVec<Lot, MAX_LOTS>,
     trail: &mut Trail<'_>,
-    best: &mut Option<Schedule>,
+    best: &mut Option<Known>,
 )
-    requires { Standing capacity trail.old.table_len (lots.items ∷ unvisited trail.old) }
+    requires standing { Standing capacity trail.old.table_len (lots.items ∷ unvisited trail.old) }
     ensures same_len { trail.new.table_len ≡ trail.old.table_len }
     ensures advances { Advances (R.meaning rule.now) capacity (best_known best.old) (lots.items ∷ unvisited trail.old) (best_known best.new) (unvisited trail.new) }
 {
     let lots = lots.as_mut_slice();
     match look(rule, capacity, best, lots) {
-        Node::Closed => {}
-        Node::Found(schedule) => *best = Some(schedule),
-        Node::Fork(number) => fork(trail, lots, number),
+        Fate::Closed => {}
+        Fate::Found(known) => *best = Some(known),
+        Fate::Fork(number) => fork(trail, lots, number),
     }
 }
 
 // Visits the tree over a table, with its unvisited nodes in these cells.
 fn explore<R: Rule>(rule: &R, table: Table<'_>, budget: u32, cells: &mut [Lot]) -> Explored
-    requires { length table.lots.now * length table.lots.now + length table.lots.now ≤ length cells.old }
-    ensures { Explores (R.meaning rule.now) table.entry.capacity table.entry.lots.now budget result }
+    requires cells { trail_cells (length table.lots.now) ≤ length cells.old }
+    ensures answer { Explores (R.meaning rule.now) table.entry.capacity table.entry.lots.now budget result }
 {
     let mut trail = Trail::over(cells, table.lots.len());
     let mut best = None;
@@ -103,8 +103,8 @@ fn explore<R: Rule>(rule: &R, table: Table<'_>, budget: u32, cells: &mut [Lot]) 
     }
 }
 
-// Searches for the best schedule of a table by a rule, and visits `budget` nodes at most. n lots take n × n + n cells of the
-// trail, all of which are blank after a search, and n places for the starts, which are written where there is a best.
+// Searches for the best schedule of a table by a rule, and visits `budget` nodes at most. For n lots it asks for n × n + n
+// cells of a trail and n places for starts. A search leaves every cell blank, and writes the starts where there is a best.
 pub fn solve<R: Rule>(
     rule: &R,
     table: Table<'_>,
@@ -120,7 +120,7 @@ pub fn solve<R: Rule>(
     if budget == 0 {
         return Err(Refusal::Budget);
     }
-    if trail.len() < n * n + n {
+    if trail.len() < Trail::cells_for(n) {
         return Err(Refusal::Trail);
     }
     if starts.len() < n {
@@ -144,6 +144,7 @@ pub fn solve<R: Rule>(
 #[cfg(test)]
 mod tests {
     use super::*;
+    use crate::MAX_TRAIL;
     use rule::Idle;
 
     // Field by field: a constant can call no function.
@@ -243,7 +244,7 @@ mod tests {
 
     #[test]
     fn a_table_may_be_full(rt: HostRuntime) {
-        let mut trail = [LOOSE; MAX_LOTS * MAX_LOTS + MAX_LOTS];
+        let mut trail = [LOOSE; MAX_TRAIL];
         let mut starts = [7; MAX_LOTS];
         assert_eq!(rt;
             search(200, &[LOOSE; MAX_LOTS], 1, &mut trail, &mut starts),
@@ -259,6 +260,6 @@ mod tests {
             search(1, &[FIXED; MAX_LOTS], 1, &mut trail, &mut starts),
             Ok(Search::None { nodes: 1 })
         );
-        assert_eq!(rt; trail, [BLANK; MAX_LOTS * MAX_LOTS + MAX_LOTS]);
+        assert_eq!(rt; trail, [BLANK; MAX_TRAIL]);
     }
 }

@@ -1,6 +1,8 @@
 // The search for the best schedule of a table: a tree of ever narrower tables, visited left before right.
 #![tactic(auto)]
 
+use lots::MAX_LOTS;
+
 mod explore;
 mod load;
 mod node;
@@ -9,6 +11,9 @@ mod trail;
 
 pub use explore::solve;
 pub use promise::each_table_has_one_visit;
+
+// The cells of a trail that serves every table.
+pub const MAX_TRAIL: usize = MAX_LOTS * MAX_LOTS + MAX_LOTS;
 
 // What a search answers. Each has the number of nodes that it visited.
 #[derive(Clone, Copy, PartialEq, Eq, Debug)]

@@ -8,31 +8,32 @@ ghost use Rattle.tree.specs.Tree.{starts as starts_of};
 
 use lots::{Lot, Table};
 
-// The minute at which the last lot is out, and 0 without lots, as it is defined.
+// The minute at which the last lot is out, and 0 without lots.
 pub(crate) fn last_end(lots: &[Lot]) -> u32
-    ensures { result ≡ end_of lots.now (starts_of lots.now) }
+    ensures answer { result ≡ end_of lots.now (starts_of lots.now) }
 {
     lots.iter().map(|lot| lot.ect()).max().unwrap_or(0)
 }
 
 // The minute at which the first lot goes in, and 0 without lots.
 fn first_start(lots: &[Lot]) -> u32
-    ensures { AllByRecursion (λ x. result ≤ x.est) lots.now }
+    ensures answer { AllByRecursion (λ x. result ≤ x.est) lots.now }
 {
     lots.iter().map(|lot| u32::from(lot.est)).min().unwrap_or(0)
 }
 
 fn runs_at(lot: &Lot, minute: u32) -> bool
-    ensures { result ≡ spans lot.now.est (earliest_end lot.now) minute }
+    ensures answer { result ≡ spans lot.now.est (earliest_end lot.now) minute }
 {
     u32::from(lot.est) <= minute && minute < lot.ect()
 }
 
 // Whether the load is within the capacity at every minute.
 pub(crate) fn is_within(table: Table<'_>) -> bool
-    ensures { LoadWithin table.entry.capacity table.entry.lots.now result }
+    ensures answer { LoadWithin table.entry.capacity table.entry.lots.now result }
 {
-    // Both loops are left at the first overfull minute: hence the label.
+    // Two loops and four levels, since both loops are left at the first overfull minute: hence the label. With the
+    // inner loop apart, its answer would be asked again at once.
     'load: {
         for minute in first_start(table.lots)..last_end(table.lots) {
             let mut load = 0;

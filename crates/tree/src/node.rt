@@ -1,8 +1,8 @@
 // One node of the tree: what the best known and the rule leave of its lots, and what becomes of it.
 ghost use Rattle.std.specs.Prelude.{◌≡◌, ◌↔◌, IsTrue};
 ghost use Rattle.lots.specs.Schedules.{end as end_of};
-ghost use Rattle.lots.specs.Tables.{Lawful};
-ghost use Rattle.tree.specs.Tree.{under, Fits, starts as starts_of};
+ghost use Rattle.lots.specs.Tables.{Fits, Lawful};
+ghost use Rattle.tree.specs.Tree.{under, starts as starts_of};
 ghost use Rattle.tree.specs.Held.{best_known, BranchLot, Seen};
 
 use crate::load::{is_within, last_end};
@@ -10,16 +10,16 @@ use arrayvec::ArrayVec;
 use lots::{Lot, MAX_LOTS, Table};
 use rule::{Rule, Verdict, settle};
 
-// The starts of a schedule by number, and when it ends.
+// The best schedule known: its starts by number, and when it ends.
 #[derive(Drop)]
-pub(crate) struct Schedule {
+pub(crate) struct Known {
     pub(crate) end: u16,
     pub(crate) starts: ArrayVec<u16, MAX_LOTS>,
 }
 
-impl Schedule {
+impl Known {
     // Every lot at its est.
-    fn of(table: Table<'_>) -> Schedule
+    fn of(table: Table<'_>) -> Known
         ensures end { result.end ≡ end_of table.entry.lots.now (starts_of table.entry.lots.now) }
         ensures starts { result.starts.items ≡ starts_of table.entry.lots.now }
     {
@@ -28,7 +28,7 @@ impl Schedule {
         for lot in table.lots {
             starts.push(lot.est);
         }
-        Schedule {
+        Known {
             end: last_end(table.lots) as u16,
             starts,
         }
@@ -37,25 +37,25 @@ impl Schedule {
 
 // What becomes of a visited node.
 #[derive(Drop)]
-pub(crate) enum Node {
+pub(crate) enum Fate {
     // It is closed, and the best known stays.
     Closed,
     // It is closed, and this is the best known now.
-    Found(Schedule),
+    Found(Known),
     // The two nodes below it are branched on the lot with this number.
     Fork(usize),
 }
 
 // Has each lot out before the end of the best known, and answers whether every run fits then.
-fn cut_under(best: &Option<Schedule>, lots: &mut [Lot]) -> bool
-    requires { Fits lots.old }
-    ensures cut { lots.new ≡ under (best_known best.now) lots.old }
+fn cut_under(best: &Option<Known>, lots: &mut [Lot]) -> bool
+    requires fits { Fits lots.old }
+    ensures after { lots.new ≡ under (best_known best.now) lots.old }
     ensures fits { IsTrue result ↔ Fits lots.new }
 {
-    let Some(schedule) = best else {
+    let Some(known) = best else {
         return true;
     };
-    let last = schedule.end.saturating_sub(1);
+    let last = known.end.saturating_sub(1);
     for lot in lots.iter_mut() {
         lot.lct = lot.lct.min(last);
     }
@@ -64,7 +64,7 @@ fn cut_under(best: &Option<Schedule>, lots: &mut [Lot]) -> bool
 
 // The lot to branch on: of those with a choice of starts the first of the least est.
 fn branch_lot(lots: &[Lot]) -> Option<usize>
-    ensures { BranchLot lots.now result }
+    ensures answer { BranchLot lots.now result }
 {
     let mut pick: Option<usize> = None;
     for (number, lot) in lots.iter().enumerate() {
@@ -76,30 +76,25 @@ fn branch_lot(lots: &[Lot]) -> Option<usize>
 }
 
 // Looks at a node: writes what is left of its lots over them, and answers what becomes of it.
-pub(crate) fn look<R: Rule>(
-    rule: &R,
-    capacity: u16,
-    best: &Option<Schedule>,
-    lots: &mut [Lot],
-) -> Node
-    requires { Lawful capacity lots.old }
-    ensures { Seen (R.meaning rule.now) capacity (best_known best.now) lots.old lots.new result }
+pub(crate) fn look<R: Rule>(rule: &R, capacity: u16, best: &Option<Known>, lots: &mut [Lot]) -> Fate
+    requires lawful { Lawful capacity lots.old }
+    ensures answer { Seen (R.meaning rule.now) capacity (best_known best.now) lots.old lots.new result }
 {
     if !cut_under(best, lots) {
-        return Node::Closed;
+        return Fate::Closed;
     }
     // A lawful table is never refused.
     let (verdict, _) = settle(rule, capacity, lots).unwrap();
     if let Verdict::Dead = verdict {
-        return Node::Closed;
+        return Fate::Closed;
     }
     if let Some(j) = branch_lot(lots) {
-        return Node::Fork(j);
+        return Fate::Fork(j);
     }
     let table = Table { capacity, lots };
     if is_within(table) {
-        Node::Found(Schedule::of(table))
+        Fate::Found(Known::of(table))
     } else {
-        Node::Closed
+        Fate::Closed
     }
 }

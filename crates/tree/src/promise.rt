@@ -3,5 +3,5 @@ ghost use Rattle.tree.specs.Tree.{EveryTree};
 
 // Every lawful table has one visit: it is short, and it finds the best. The call does nothing: its contract says it.
 pub fn each_table_has_one_visit()
-    ensures { EveryTree }
+    ensures every_tree { EveryTree }
 {}

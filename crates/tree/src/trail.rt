@@ -1,6 +1,7 @@
 // The trail of a search: its unvisited nodes, as a stack of tables in lent cells.
 ghost use Rattle.std.specs.Prelude.{◌≡◌, ◌+◌, ◌*◌, ◌<◌, ◌≤◌, ◌↔◌, IsTrue, ◌∷◌, length, take, drop, MatchOption};
 ghost use Rattle.lots.specs.Limits.{max_lots};
+ghost use Rattle.tree.specs.Answer.{trail_cells};
 ghost use Rattle.tree.specs.Stack.{tables};
 
 use arrayvec::ArrayVec;
@@ -15,15 +16,23 @@ pub(crate) struct Trail<'a> {
     depth: usize,
     ghost few_lots: { table_len ≤ max_lots },
     ghost few_tables: { depth ≤ table_len + 1 },
-    ghost enough_cells: { table_len * table_len + table_len ≤ length cells.now },
+    ghost enough_cells: { trail_cells table_len ≤ length cells.now },
 }
 
 impl<'a> Trail<'a> {
+    // How many cells it takes for tables of so many lots.
+    pub(crate) fn cells_for(table_len: usize) -> usize
+        requires few_lots { table_len ≤ max_lots }
+        ensures answer { result ≡ trail_cells table_len }
+    {
+        table_len * table_len + table_len
+    }
+
     // No node, over these cells.
     pub(crate) fn over(cells: &'a mut [Lot], table_len: usize) -> Trail<'a>
         requires few_lots { table_len ≤ max_lots }
-        requires enough_cells { table_len * table_len + table_len ≤ length cells.old }
-        ensures { (result.depth ≡ 0) × (result.table_len ≡ table_len) }
+        requires enough_cells { trail_cells table_len ≤ length cells.old }
+        ensures empty { (result.depth ≡ 0) × (result.table_len ≡ table_len) }
     {
         Trail {
             cells,
@@ -33,7 +42,7 @@ impl<'a> Trail<'a> {
     }
 
     pub(crate) fn is_empty(&self) -> bool
-        ensures { IsTrue result ↔ (self.now.depth ≡ 0) }
+        ensures answer { IsTrue result ↔ (self.now.depth ≡ 0) }
     {
         self.depth == 0
     }
@@ -54,8 +63,8 @@ impl<'a> Trail<'a> {
 
     // The node with this number, from 0 for the first that was saved.
     fn table(&self, number: usize) -> ArrayVec<Lot, MAX_LOTS>
-        requires { number < self.now.depth }
-        ensures { result.items ≡ take self.now.table_len (drop (number * self.now.table_len) self.now.cells.now) }
+        requires inside { number < self.now.depth }
+        ensures answer { result.items ≡ take self.now.table_len (drop (number * self.now.table_len) self.now.cells.now) }
     {
         let at = number * self.table_len;
         // There is room for the lots of a table.

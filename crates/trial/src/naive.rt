@@ -1,4 +1,4 @@
-// What the rules and the overflow are defined to be, computed minute by minute and lot by lot.
+// What the overflow, the rules and tighten are defined to be, computed minute by minute and lot by lot.
 
 use crate::schedules::{earliest_end, latest_start};
 use lots::{HORIZON, Lot};
@@ -25,7 +25,7 @@ fn latest(lots: &[Lot]) -> u16 {
 
 // The trays of the lots for which the test holds.
 fn trays<F: Fn(&Lot) -> bool>(lots: &[Lot], test: F) -> u64
-    requires { F.IsAlwaysCallable test }
+    requires callable { F.IsAlwaysCallable test }
 {
     let mut trays = 0u64;
     for lot in lots {
@@ -108,7 +108,7 @@ fn is_fixed_at(lot: &Lot, minute: u16) -> bool {
     latest_start(lot) <= minute && u32::from(minute) < earliest_end(lot)
 }
 
-// The minute after the last of its first run at which the lot does not fit beside the fixed parts of the others.
+// The minute after the last at which the lot, started at its est, does not fit beside the fixed parts of the others.
 fn time_table_bound(capacity: u16, lots: &[Lot], number: usize, lot: &Lot) -> u16 {
     let mut bound = 0;
     for minute in lot.est..lot.est.saturating_add(lot.p) {
@@ -254,4 +254,33 @@ impl Defined for House {
         }
         .defined(heap, capacity, lots)
     }
+}
+
+// The sum of lst − est.
+pub fn slack(lots: &[Lot]) -> u32 {
+    lots.iter().fold(0u32, |slack, lot| {
+        slack.saturating_add(u32::from(latest_start(lot).saturating_sub(lot.est)))
+    })
+}
+
+// The lots that are left once nothing changes any more, none where the rule is dead, and the number of applications.
+pub fn settled<R: Defined>(
+    heap: Global,
+    rule: &R,
+    capacity: u16,
+    lots: &[Lot],
+) -> Result<(Option<Vec<Lot>>, u32), AllocError> {
+    let mut now = lots.to_vec(heap)?;
+    let mut applications = 0u32;
+    for _ in 0..=slack(lots) {
+        applications = applications.saturating_add(1);
+        let Some(left) = rule.defined(heap, capacity, now.as_slice())? else {
+            return Ok((None, applications));
+        };
+        if left.as_slice() == now.as_slice() {
+            break;
+        }
+        now = left;
+    }
+    Ok((Some(now), applications))
 }

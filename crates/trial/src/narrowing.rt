@@ -1,14 +1,14 @@
 // What an application of a rule leaves of a table, and what tighten leaves of a plan.
 
-use crate::naive::Defined;
-use crate::schedules::{is_schedule, latest_start, schedules};
+use crate::naive::{Defined, settled, slack};
+use crate::schedules::{is_schedule, schedules};
 use crate::tables::Sample;
 use crate::tally::{Case, Tally};
 use anyhow::anyhow;
 use lots::{HORIZON, Lot, MAX_CAPACITY, MAX_LOTS};
 use plan::Plan;
 use rule::Verdict;
-use std::alloc::{AllocError, Global};
+use std::alloc::Global;
 use std::io;
 
 fn is_lawful(capacity: u16, lots: &[Lot]) -> bool {
@@ -33,35 +33,6 @@ fn is_narrower(old: &[Lot], new: &[Lot]) -> bool {
     old.iter()
         .zip(new)
         .all(|(a, b)| a.est <= b.est && b.lct <= a.lct)
-}
-
-// The sum of lst − est.
-fn room(lots: &[Lot]) -> u32 {
-    lots.iter().fold(0u32, |room, lot| {
-        room.saturating_add(u32::from(latest_start(lot).saturating_sub(lot.est)))
-    })
-}
-
-// The lots that are left once nothing changes any more, none where the rule is dead, and the number of applications.
-pub fn settled<R: Defined>(
-    heap: Global,
-    rule: &R,
-    capacity: u16,
-    lots: &[Lot],
-) -> Result<(Option<Vec<Lot>>, u32), AllocError> {
-    let mut now = lots.to_vec(heap)?;
-    let mut applications = 0u32;
-    for _ in 0..=room(lots) {
-        applications = applications.saturating_add(1);
-        let Some(left) = rule.defined(heap, capacity, now.as_slice())? else {
-            return Ok((None, applications));
-        };
-        if left.as_slice() == now.as_slice() {
-            break;
-        }
-        now = left;
-    }
-    Ok((Some(now), applications))
 }
 
 // Whether these lots, or that there are none, are what the verdict and the new table say.
@@ -151,7 +122,7 @@ pub fn compare_tighten<R: Defined>(
     let after = schedules(heap, *capacity, new)?;
     let same_schedules = after.as_slice() == case.sample.schedules.as_slice();
     tally.compare(case, "tighten keeps the schedules", same_schedules)?;
-    let most = room(lots.as_slice()).saturating_add(1);
+    let most = slack(lots.as_slice()).saturating_add(1);
     tally.compare(case, "applied at most so often", applications <= most)?;
     let (defined, defined_applications) = settled(heap, rule, *capacity, lots.as_slice())?;
     let agrees = is_as_defined(&defined, verdict, new) && applications == defined_applications;

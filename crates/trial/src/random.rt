@@ -21,7 +21,7 @@ impl Random {
 
     // A number from 0 to `most`.
     pub fn up_to(&mut self, most: u16) -> u16
-        ensures { result ≤ most }
+        ensures bound { result ≤ most }
     {
         self.state = self.state.wrapping_mul(MULTIPLIER).wrapping_add(INCREMENT);
         let ways = u64::from(most) + 1;

@@ -52,7 +52,7 @@ pub fn is_schedule(capacity: u16, lots: &[Lot], starts: &[u16]) -> bool {
 
 // How many minutes a lot may start at.
 fn choices(lot: &Lot) -> u64
-    ensures { 1 ≤ result }
+    ensures bound { 1 ≤ result }
 {
     u64::from(latest_start(lot).saturating_sub(lot.est)) + 1
 }

@@ -1,7 +1,6 @@
 // The tree that a search is defined to visit, node by node.
 
-use crate::naive::Defined;
-use crate::narrowing::settled;
+use crate::naive::{Defined, settled};
 use crate::schedules::{earliest_end, end, is_schedule, latest_start, ways};
 use lots::Lot;
 use std::alloc::{AllocError, Global};
@@ -22,7 +21,7 @@ pub struct Visited {
 
 // What becomes of a node.
 #[derive(Drop)]
-enum Node {
+enum Fate {
     Closed,
     Found(Schedule),
     // The nodes below, the left one and the right one.
@@ -57,7 +56,7 @@ fn changed<F: Fn(&Lot) -> Lot>(
     number: usize,
     change: F,
 ) -> Result<Vec<Lot>, AllocError>
-    requires { F.IsAlwaysCallable change }
+    requires callable { F.IsAlwaysCallable change }
 {
     let mut changed = Vec::new(heap);
     for (at, lot) in lots.iter().enumerate() {
@@ -67,7 +66,7 @@ fn changed<F: Fn(&Lot) -> Lot>(
 }
 
 // The two nodes below, branched on the lot of a number.
-fn fork(heap: Global, lots: &[Lot], number: usize) -> Result<Node, AllocError> {
+fn fork(heap: Global, lots: &[Lot], number: usize) -> Result<Fate, AllocError> {
     let left = changed(
         heap,
         lots,
@@ -86,17 +85,17 @@ fn fork(heap: Global, lots: &[Lot], number: usize) -> Result<Node, AllocError> {
             ..*lot
         },
     )?;
-    Ok(Node::Fork(left, right))
+    Ok(Fate::Fork(left, right))
 }
 
 // What becomes of a node whose lots each have one start.
-fn leaf(heap: Global, capacity: u16, lots: &[Lot]) -> Result<Node, AllocError> {
+fn leaf(heap: Global, capacity: u16, lots: &[Lot]) -> Result<Fate, AllocError> {
     let starts: Vec<u16> = lots.iter().map(|lot| lot.est).collect(heap)?;
     if !is_schedule(capacity, lots, starts.as_slice()) {
-        return Ok(Node::Closed);
+        return Ok(Fate::Closed);
     }
     let end = u16::try_from(end(lots, starts.as_slice())).unwrap_or(u16::MAX);
-    Ok(Node::Found(Schedule { end, starts }))
+    Ok(Fate::Found(Schedule { end, starts }))
 }
 
 fn look<R: Defined>(
@@ -105,12 +104,12 @@ fn look<R: Defined>(
     capacity: u16,
     best: &Option<Schedule>,
     lots: &[Lot],
-) -> Result<Node, AllocError> {
+) -> Result<Fate, AllocError> {
     let Some(lots) = sooner(heap, best, lots)? else {
-        return Ok(Node::Closed);
+        return Ok(Fate::Closed);
     };
     let (Some(lots), _) = settled(heap, rule, capacity, lots.as_slice())? else {
-        return Ok(Node::Closed);
+        return Ok(Fate::Closed);
     };
     let choice = lots
         .iter()
@@ -143,9 +142,9 @@ pub fn visit<R: Defined>(
         };
         visited.nodes = visited.nodes.saturating_add(1);
         match look(heap, rule, capacity, &visited.best, node.as_slice())? {
-            Node::Closed => {}
-            Node::Found(schedule) => visited.best = Some(schedule),
-            Node::Fork(left, right) => {
+            Fate::Closed => {}
+            Fate::Found(schedule) => visited.best = Some(schedule),
+            Fate::Fork(left, right) => {
                 unvisited.push(right)?;
                 unvisited.push(left)?;
             }

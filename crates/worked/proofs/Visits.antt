@@ -5,12 +5,12 @@ use Rattle.std.proofs.ByRecursion.{Decides-by_and}
 use Rattle.std.proofs.lemmas.Bool.{leb-true, le-leb}
 use Rattle.std.proofs.lemmas.Bool.Decides.{Decides-ltb}
 use Rattle.lots.specs.Schedules.{load, end}
-use Rattle.lots.specs.Tables.{ect, lst, lot_at}
+use Rattle.lots.specs.Tables.{ect, lst, lot_at, Fits}
 use Rattle.lots.specs.declared.Lot.{Lot}
 use Rattle.rule.specs.Meanings.{Meaning, Outcome, dead, to}
 use Rattle.rule.specs.Settled.{Moves, none, more, slack}
-use Rattle.tree.specs.Tree.{BestKnown, known, under, Fits, ComesTo, Leaves, late, tight, Fixed, starts, Branch, left, right, barren, overfull, found, final, Visit, leaf, fork}
-use Rattle.tree.proofs.Loads.{to_the_end}
+use Rattle.tree.specs.Tree.{BestKnown, known, under, ComesTo, Leaves, late, tight, Fixed, starts, HasChoice, Branch, left, right, barren, overfull, found, final, Visit, leaf, fork}
+use Rattle.tree.proofs.Ways.{to_the_end}
 use Rattle.worked.proofs.Found.{then, either_by, at_most, less, equal, of_each, of_each_below, of_some_below}
 use Rattle.worked.proofs.Outcomes.{same?}
 
@@ -27,15 +27,15 @@ where_so (inl p) q = then q (λ r. Some (λ _. r))
 where_so (inr n) q = Some (λ p. absurd (n p))
 
 -- the lot k, where it has a choice
-abbrev pub where_free : {Q : Type 0} → (U : List Lot) (k : ℕ) → Option Q → Option ((lot_at U k).est < lst (lot_at U k) → Q)
-where_free U k q = where_so (either_by (nat_lt (lot_at U k).est (lst (lot_at U k))) (Decides-ltb _ _)) q
+abbrev pub where_choice : {Q : Type 0} → (U : List Lot) (k : ℕ) → Option Q → Option (HasChoice (lot_at U k) → Q)
+where_choice U k q = where_so (either_by (nat_lt (lot_at U k).est (lst (lot_at U k))) (Decides-ltb _ _)) q
 
 abbrev pub branch : (U : List Lot) (j : ℕ) → Option (Branch U j)
 branch U j =
-    then (less j (length U)) (λ inside. then (less (lot_at U j).est (lst (lot_at U j))) (λ free.
-    then (of_each_below (λ k. where_free U k (at_most (lot_at U j).est (lot_at U k).est)) (length U)) (λ earliest.
-    then (of_each_below (λ k. where_free U k (less (lot_at U j).est (lot_at U k).est)) j) (λ first.
-    Some (record { inside = inside; free = free; earliest = earliest; first = first })))))
+    then (less j (length U)) (λ inside. then (less (lot_at U j).est (lst (lot_at U j))) (λ choice.
+    then (of_each_below (λ k. where_choice U k (at_most (lot_at U j).est (lot_at U k).est)) (length U)) (λ earliest.
+    then (of_each_below (λ k. where_choice U k (less (lot_at U j).est (lot_at U k).est)) j) (λ first.
+    Some (record { inside = inside; choice = choice; earliest = earliest; first = first })))))
 
 module _ (m : Meaning) (C : ℕ) where
   -- what the rule makes of T, where n moves lead from it to U; at most k more are looked at
@@ -53,7 +53,7 @@ module _ (m : Meaning) (C : ℕ) where
   -- a node whose lots have one start left each
   abbrev pub closing : (b : BestKnown) (T U : List Lot) → Leaves m C b T (to U) → Fixed U → Option (VisitOf b T)
   closing b T U l f = elim (of_each_below (λ t. at_most (load t U (starts U)) C) (end U (starts U))) [
-    | Some within ↦ Some (known (starts U) (end U (starts U)) ∷ [], leaf (found l f (to_the_end C U within)))
+    | Some within ↦ Some (known (starts U) (end U (starts U)) ∷ [], leaf (found l f (to_the_end C U (starts U) within)))
     | None ↦ then (of_some_below (λ t. less C (load t U (starts U))) (end U (starts U))) (λ r. Some (b ∷ [], leaf (overfull r.0 l f r.1)))
   ]
 

@@ -1,5 +1,5 @@
 -- Worked tables: what is done with a table, and what comes out.
-use Rattle.std.specs.Prelude.{◌≡◌, ℕ, ◌+◌, ◌*◌, ◌≤◌, List, [], ◌∷◌, ◌++◌, length, drop, replicate, Ok}
+use Rattle.std.specs.Prelude.{◌≡◌, ℕ, ◌≤◌, List, [], ◌∷◌, ◌++◌, length, drop, replicate, Ok}
 use Rattle.std.specs.List.{AllByRecursion}
 use Rattle.lots.specs.Tables.{blank}
 use Rattle.lots.specs.declared.Lot.{Lot}
@@ -13,7 +13,7 @@ use Rattle.rules.specs.NotFirst.{not_first}
 use Rattle.rules.specs.Overload.{overload}
 use Rattle.rules.specs.TimeTable.{time_table}
 use Rattle.plan.specs.Calls.{Tightened}
-use Rattle.tree.specs.Answer.{Solved}
+use Rattle.tree.specs.Answer.{trail_cells, Solved}
 use Rattle.tree.specs.Tree.{ways}
 use Rattle.tree.specs.declared.Search.{Search}
 use Rattle.tree.specs.declared.Search.TheVariants.{Best, None, Spent}
@@ -43,7 +43,7 @@ Holds (tightened m C T v k U) = Tightened m (record { capacity = C; lots = T }) 
 Holds (ways_are T n) = ways T ≡ n
 -- whatever the trail and the places for starts hold, where there is room enough
 Holds (solved m C T B a us) =
-    (cs : List Lot) (ss : List ℕ) → length T * length T + length T ≤ length cs → length T ≤ length ss
+    (cs : List Lot) (ss : List ℕ) → trail_cells (length T) ≤ length cs → length T ≤ length ss
     → Solved m C T B cs (replicate (length cs) blank) ss (us ++ drop (length us) ss) (Ok a)
 
 -- the worked tables

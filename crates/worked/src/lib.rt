@@ -5,7 +5,7 @@ ghost use Rattle.worked.specs.Cases.{AllHold};
 
 // Every case of the list holds. The call does nothing: its contract says it.
 pub fn worked_tables_hold()
-    ensures { AllHold }
+    ensures all_hold { AllHold }
 {}
 
 #[cfg(test)]

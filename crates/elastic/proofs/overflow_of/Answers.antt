@@ -12,5 +12,5 @@ returns c =
     record {
       answer = (c.args.table.lawful, left, count);
       points = omega (arith, count, points_few c.args.table.lots.now);
-      sound = λ ss s. left ∙ overflow_of_schedulable _ _ ss s;
+      none_if_schedulable = λ ss s. left ∙ overflow_of_schedulable _ _ ss s;
     }

@@ -4,16 +4,16 @@ use Rattle.std.proofs.Common.{inl, inr, sym, ap, ap₂, subst, ◌∙◌, arith}
 use Rattle.std.proofs.lemmas.Bool.{cases_lt}
 use Rattle.std.proofs.lemmas.Bool.Decides.{nat_tests}
 use Rattle.std.specs.List.{AllByRecursion}
-use Rattle.lots.specs.Tables.{Lawful}
+use Rattle.lots.specs.Limits.{horizon}
 use Rattle.lots.specs.Schedules.{spans, load, Placed, Schedule}
-use Rattle.rule.specs.Meanings.{SameWork, Narrower, Meaning, Outcome, dead, to, Gives, Dies, SameLaw, Keeps, Hopeless, Sound, Applied}
+use Rattle.lots.specs.Tables.{Lawful}
 use Rattle.lots.specs.declared.Lot.{Lot}
+use Rattle.lots.specs.declared.Refusal.{Refusal}
+use Rattle.rule.specs.Meanings.{SameWork, Narrower, Meaning, Outcome, dead, to, Gives, Dies, LawfulSameWork, Keeps, Hopeless, Sound, Applied}
+use Rattle.rule.specs.Turned.{turn, InWeek, turn_outcome, turned, Alike}
 use Rattle.rule.specs.declared.Verdict.{Verdict}
 use Rattle.rule.specs.declared.Verdict.TheVariants.{Still, Moved, Dead}
-use Rattle.lots.specs.declared.Refusal.{Refusal}
 use Rattle.rule.specs.Laws.Outcomes.{gives_at}
-use Rattle.lots.specs.Limits.{horizon}
-use Rattle.rule.specs.Turned.{turn, InWeek, turn_outcome, turned, Alike}
 use Rattle.rule.specs.Laws.Turns.{turn_turn, lawful_week, turn_lawful, turn_same_work, turn_narrower}
 
 abbrev pub mirror : List Lot → List ℕ → List ℕ
@@ -66,7 +66,7 @@ module _ (C : ℕ) (T : List Lot) (ok : Lawful C T) where
   week : AllByRecursion InWeek T
   week = lawful_week C T ok
 
-  turned_lawful : (o : Outcome) → Gives o (SameLaw C (map turn T)) → Gives (turn_outcome o) (SameLaw C T)
+  turned_lawful : (o : Outcome) → Gives o (LawfulSameWork C (map turn T)) → Gives (turn_outcome o) (LawfulSameWork C T)
   turned_lawful dead h = tt
   turned_lawful (to U) h = (turn_lawful C U h.0, turn_same_work T U week h.1)
 
@@ -74,7 +74,7 @@ module _ (C : ℕ) (T : List Lot) (ok : Lawful C T) where
   turned_narrows dead h = tt
   turned_narrows (to U) h = turn_narrower T U week h
 
-  turned_keeps : (o : Outcome) → Gives o (SameLaw C (map turn T)) → Gives o (Keeps C (map turn T)) → Gives (turn_outcome o) (Keeps C T)
+  turned_keeps : (o : Outcome) → Gives o (LawfulSameWork C (map turn T)) → Gives o (Keeps C (map turn T)) → Gives (turn_outcome o) (Keeps C T)
   turned_keeps dead l h = tt
   turned_keeps (to U) l h = λ ss s.
       subst (Schedule C (map turn U)) (mirror_mirror T U ss week s.placed l.1)
@@ -103,7 +103,7 @@ turned_applied m p C T U (Ok Moved) ok a =
 turned_applied m p C T U (Ok Dead) ok a = (ok, ap turn_outcome a.1, ap (map turn) a.2 ∙ turn_turn T (lawful_week C T ok))
 turned_applied m p C T U (Err e) ok a = absurd (a.0 (turn_lawful C T ok))
 
-turn_outcome_twice : (C : ℕ) (T : List Lot) (o : Outcome) → Gives o (SameLaw C T) → turn_outcome (turn_outcome o) ≡ o
+turn_outcome_twice : (C : ℕ) (T : List Lot) (o : Outcome) → Gives o (LawfulSameWork C T) → turn_outcome (turn_outcome o) ≡ o
 turn_outcome_twice C T dead h = refl
 turn_outcome_twice C T (to U) h = ap to (turn_turn U (lawful_week C U h.0))
 

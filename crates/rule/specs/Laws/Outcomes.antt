@@ -2,11 +2,11 @@
 use Rattle.std.specs.Prelude.{◌≡◌, ℕ, Bool, true, false, cond, List, Ok, Err, Result, ◌≢◌, refl}
 use Rattle.std.proofs.Common.{sym, ap, subst, ◌∙◌}
 use Rattle.lots.specs.Tables.{Lawful}
-use Rattle.rule.specs.Meanings.{Meaning, Outcome, dead, to, Gives, Dies, Sound, Applied}
 use Rattle.lots.specs.declared.Lot.{Lot}
+use Rattle.lots.specs.declared.Refusal.{Refusal}
+use Rattle.rule.specs.Meanings.{Meaning, Outcome, dead, to, Gives, Dies, Sound, Applied}
 use Rattle.rule.specs.declared.Verdict.{Verdict}
 use Rattle.rule.specs.declared.Verdict.TheVariants.{Still, Moved, Dead}
-use Rattle.lots.specs.declared.Refusal.{Refusal}
 
 pub gives_weaker : (o : Outcome) (P Q : List Lot → Type 0) → ((U : List Lot) → P U → Q U) → Gives o P → Gives o Q
 gives_weaker dead P Q f h = tt

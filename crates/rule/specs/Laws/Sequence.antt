@@ -1,28 +1,28 @@
 -- One sound rule after another is sound.
 use Rattle.std.specs.Prelude.{ℕ, List, Ok, ◌≢◌}
 use Rattle.std.proofs.Common.{sym, ap, subst, ◌∙◌}
-use Rattle.rule.specs.Meanings.{Narrower, Meaning, Outcome, dead, to, Gives, Dies, SameLaw, Keeps, Hopeless, Sound, Applied}
 use Rattle.lots.specs.declared.Lot.{Lot}
-use Rattle.rule.specs.Laws.Tables.{same_work_trans, narrower_trans, narrower_antisym}
-use Rattle.rule.specs.Laws.Outcomes.{gives_weaker, dies_weaker, gives_at, applied_to}
+use Rattle.rule.specs.Both.{then, both}
+use Rattle.rule.specs.Meanings.{Narrower, Meaning, Outcome, dead, to, Gives, Dies, LawfulSameWork, Keeps, Hopeless, Sound, Applied}
 use Rattle.rule.specs.declared.Verdict.{Verdict}
 use Rattle.rule.specs.declared.Verdict.TheVariants.{Moved, Dead}
-use Rattle.rule.specs.Both.{then, both}
+use Rattle.rule.specs.Laws.Outcomes.{gives_weaker, dies_weaker, gives_at, applied_to}
+use Rattle.rule.specs.Laws.Tables.{same_work_trans, narrower_trans, narrower_antisym}
 
 module _ (n : Meaning) (q : Sound n) (C : ℕ) (T : List Lot) where
-  then_lawful : (o : Outcome) → Gives o (SameLaw C T) → Gives (then o (n C)) (SameLaw C T)
+  then_lawful : (o : Outcome) → Gives o (LawfulSameWork C T) → Gives (then o (n C)) (LawfulSameWork C T)
   then_lawful dead h = tt
   then_lawful (to U) h = gives_weaker (n C U) _ _ (λ V r. (r.0, same_work_trans T U V h.1 r.1)) (q.lawful C U h.0)
 
-  then_narrows : (o : Outcome) → Gives o (SameLaw C T) → Gives o (Narrower T) → Gives (then o (n C)) (Narrower T)
+  then_narrows : (o : Outcome) → Gives o (LawfulSameWork C T) → Gives o (Narrower T) → Gives (then o (n C)) (Narrower T)
   then_narrows dead l h = tt
   then_narrows (to U) l h = gives_weaker (n C U) _ _ (λ V r. narrower_trans T U V h r) (q.narrows C U l.0)
 
-  then_keeps : (o : Outcome) → Gives o (SameLaw C T) → Gives o (Keeps C T) → Gives (then o (n C)) (Keeps C T)
+  then_keeps : (o : Outcome) → Gives o (LawfulSameWork C T) → Gives o (Keeps C T) → Gives (then o (n C)) (Keeps C T)
   then_keeps dead l h = tt
   then_keeps (to U) l h = gives_weaker (n C U) _ _ (λ V r ss s. r ss (h ss s)) (q.keeps C U l.0)
 
-  then_dies : (o : Outcome) → Gives o (SameLaw C T) → Gives o (Keeps C T) → Dies o (Hopeless C T) → Dies (then o (n C)) (Hopeless C T)
+  then_dies : (o : Outcome) → Gives o (LawfulSameWork C T) → Gives o (Keeps C T) → Dies o (Hopeless C T) → Dies (then o (n C)) (Hopeless C T)
   then_dies dead l k h = h
   then_dies (to U) l k h = dies_weaker (n C U) _ _ (λ r ss s. r ss (k ss s)) (q.dies_rightly C U l.0)
 
@@ -38,7 +38,7 @@ both_sound m n p q = record {
 pub both_moves : (m n : Meaning) → Sound m → Sound n → (C : ℕ) (T U V : List Lot) (v : Verdict) → (v ≢ Dead) → Applied m C T U (Ok v) → Applied n C U V (Ok Moved) → Applied (both m n) C T V (Ok Moved)
 both_moves m n p q C T U V v alive a b =
     let x = applied_to m C T U v alive a in
-    let law = gives_at (m C T) (SameLaw C T) U x.1 (p.lawful C T x.0) in
+    let law = gives_at (m C T) (LawfulSameWork C T) U x.1 (p.lawful C T x.0) in
     let there = gives_at (m C T) (Narrower T) U x.1 (p.narrows C T x.0) in
     let on = gives_at (n C U) (Narrower U) V b.1 (q.narrows C U law.0) in (
       x.0,

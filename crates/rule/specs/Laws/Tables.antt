@@ -2,9 +2,9 @@
 use Rattle.std.specs.Prelude.{◌≡◌, List, [], ◌∷◌, refl}
 use Rattle.std.proofs.Common.{sym, ap₂, ◌∙◌, arith}
 use Rattle.std.specs.List.{AllZip}
+use Rattle.lots.specs.declared.Lot.{Lot}
 use Rattle.rule.specs.Idle.{idle}
 use Rattle.rule.specs.Meanings.{SameWork, Narrower, Sound}
-use Rattle.lots.specs.declared.Lot.{Lot}
 
 pub each_refl : {X : Type 0} (R : X → X → Type 0) → ((x : X) → R x x) → (xs : List X) → AllZip R xs xs
 each_refl R r [] = tt

@@ -4,12 +4,12 @@ use Rattle.std.proofs.Common.{sym, ap₂, subst, arith}
 use Rattle.std.proofs.lemmas.List.{length-map}
 use Rattle.std.proofs.ByRecursion.{All-map, All-weaker}
 use Rattle.std.specs.List.{AllZip, AllByRecursion}
-use Rattle.lots.specs.Tables.{LawfulLot, Lawful}
-use Rattle.rule.specs.Meanings.{SameWork, Narrower}
-use Rattle.lots.specs.declared.Lot.{Lot}
-use Rattle.rule.specs.Laws.Tables.{lot_path}
 use Rattle.lots.specs.Limits.{max_lots}
+use Rattle.lots.specs.Tables.{LawfulLot, Lawful}
+use Rattle.lots.specs.declared.Lot.{Lot}
+use Rattle.rule.specs.Meanings.{SameWork, Narrower}
 use Rattle.rule.specs.Turned.{turn, InWeek}
+use Rattle.rule.specs.Laws.Tables.{lot_path}
 
 pub turn_lot_twice : (x : Lot) → InWeek x → turn (turn x) ≡ x
 turn_lot_twice x h = lot_path _ _ (omega arith) (omega arith) refl refl

@@ -65,7 +65,7 @@ module _ (test : ℕ → Lot → Bool) where
       let rest = chosen_push (suc k) ys x ∙ ap (λ n. chosen test (suc k) ys ++ cond (test n x) (x ∷ []) []) (omega arith) in
       ap (λ zs. cond (test k y) (y ∷ zs) zs) rest ∙ cond_append (test k y) y (chosen test (suc k) ys) (cond (test (k + suc (length ys)) x) (x ∷ []) [])
 
-  chosen_more : (T : List Lot) (i : ℕ) → i < length T → chosen test 0 (take (i + 1) T) ≡ chosen test 0 (take i T) ++ cond (test i (lot_at T i)) (lot_at T i ∷ []) []
+  pub chosen_more : (T : List Lot) (i : ℕ) → i < length T → chosen test 0 (take (i + 1) T) ≡ chosen test 0 (take i T) ++ cond (test i (lot_at T i)) (lot_at T i ∷ []) []
   chosen_more T i h =
       ap (chosen test 0) (take_more T i _ h)
       ∙ chosen_push 0 (take i T) (lot_at T i)

@@ -10,6 +10,7 @@ use Rattle.lots.specs.Limits.{horizon}
 use Rattle.lots.specs.Schedules.{spans, load, Placed, Schedule}
 use Rattle.lots.specs.Tables.{ect, lot_at, LawfulLot, Lawful}
 use Rattle.lots.specs.declared.Lot.{Lot}
+use Rattle.elastic.specs.Parts.{run}
 use Rattle.elastic.specs.Profile.{earliest, overflow}
 use Rattle.elastic.proofs.Soundness.{overflow_of_schedulable}
 use Rattle.rule.specs.Meanings.{Sound}
@@ -72,13 +73,13 @@ span_below a b v e = grind (arith, nat_tests)
 runs_at : (s p t : ℕ) → s ≤ t → t < s + p → spans s (s + p) t ≡ true
 runs_at s p t h k = grind (arith, nat_tests)
 
-own_test : (T : List Lot) (i t : ℕ) → (not (i == i) && (nat_lt (lot_at T i).est (ect (lot_at T i)) && nat_le (lot_at T i).lct t)) ≡ false
+own_test : (T : List Lot) (i t : ℕ) → in_cut i (lot_at T i).est t i (lot_at T i) ≡ false
 own_test T i t = ap (λ b. not b && (nat_lt (lot_at T i).est (ect (lot_at T i)) && nat_le (lot_at T i).lct t)) (eq-eqb i i refl)
 
 -- a schedule in which i starts before every ect of the cut gives one of the cut with its stand-in
 module _ (C : ℕ) (T : List Lot) (ok : Lawful C T) (ss : List ℕ) (s : Schedule C T ss) (i : ℕ) (h : i < length T) (t : ℕ) (early : slice_index_or ss i 0 < least_ect (cut T i t)) where
   abbrev test : ℕ → Lot → Bool
-  test k x = not (k == i) && (nat_lt (lot_at T i).est (ect x) && nat_le x.lct t)
+  test = in_cut i (lot_at T i).est t
 
   abbrev Ω : List Lot
   Ω = cut T i t
@@ -107,7 +108,7 @@ module _ (C : ℕ) (T : List Lot) (ok : Lawful C T) (ss : List ℕ) (s : Schedul
   ]
 
   abbrev guest : Lot
-  guest = record { est = earliest Ω; lct = m; p = m - earliest Ω; c = (lot_at T i).c }
+  guest = run (lot_at T i).c m Ω
 
   load_with : (v : ℕ) (b : Bool) → spans (earliest Ω) (earliest Ω + (m - earliest Ω)) v ≡ b → earliest Ω < m → load v Ω us + (cond b (lot_at T i).c 0 + 0) ≤ C
   load_with v true e k = omega (arith, beside v (omega (arith, span_below (earliest Ω) (earliest Ω + (m - earliest Ω)) v e)))

@@ -7,13 +7,13 @@ use Rattle.std.proofs.lemmas.Bool.Decides.{same_from_decides}
 use Rattle.lots.specs.declared.Lot.{Lot}
 use Rattle.elastic.specs.Profile.{overflow, has}
 use Rattle.elastic.proofs.Soundness.{overflow_of_schedulable}
-use Rattle.rule.specs.Meanings.{Narrower, SameLaw, Keeps, Hopeless, Sound, dead, to}
+use Rattle.rule.specs.Meanings.{Narrower, LawfulSameWork, Keeps, Hopeless, Sound, dead, to}
 use Rattle.rule.specs.Laws.Outcomes.{gives_either, dies_either}
 use Rattle.rule.specs.Laws.Tables.{same_work_refl, narrower_refl}
 use Rattle.rules.specs.Chosen.{chosen, overfull}
-use Rattle.rules.specs.Cuts.{ends_of, cut_ends, CutsOf}
+use Rattle.rules.specs.Ends.{ends_of, end_minutes, DistinctEnds}
 use Rattle.rules.specs.Overload.{due, some_overfull, overload}
-use Rattle.rules.specs.declared.cuts.Cut.{Cut}
+use Rattle.rules.specs.declared.ends.End.{End}
 use Rattle.rules.specs.Laws.ChosenLots.{chosen_schedule}
 
 -- lots of which some are overfull have no schedule
@@ -30,7 +30,7 @@ some_hopeless C T (t ∷ ts) h = elim (or_cases (overfull C (due t T)) (some_ove
 
 pub overload_sound : Sound overload
 overload_sound = record {
-  lawful = λ C T ok. gives_either (to T) (SameLaw C T) (some_overfull C T (ends_of T)) (ok, same_work_refl T);
+  lawful = λ C T ok. gives_either (to T) (LawfulSameWork C T) (some_overfull C T (ends_of T)) (ok, same_work_refl T);
   narrows = λ C T ok. gives_either (to T) (Narrower T) (some_overfull C T (ends_of T)) (narrower_refl T);
   keeps = λ C T ok. gives_either (to T) (Keeps C T) (some_overfull C T (ends_of T)) (λ ss s. s);
   dies_rightly = λ C T ok. dies_either (to T) (Hopeless C T) (some_overfull C T (ends_of T)) (some_hopeless C T (ends_of T)) tt;
@@ -57,11 +57,11 @@ module _ (C : ℕ) (T : List Lot) where
       same_from_decides (some_overfull C T ts) (some_overfull C T us) (λ e. e, λ e. e)
       (some_moved us ts (λ t h. same t ∙ h), some_moved ts us (λ t h. sym (same t) ∙ h))
 
-  -- the search through the cuts
-  pub any_overfull : (cs : List Cut) → list_any (λ (x : Cut). overfull C (due x.lct T)) cs ≡ some_overfull C T (cut_ends cs)
+  -- the search through the distinct ends
+  pub any_overfull : (es : List End) → list_any (λ (x : End). overfull C (due x.lct T)) es ≡ some_overfull C T (end_minutes es)
   any_overfull [] = refl
   any_overfull (x ∷ xs) = ap (λ b. overfull C (due x.lct T) || b) (any_overfull xs)
 
--- the cuts tell as much as the lots
-pub overload_by_cuts : (C : ℕ) (T : List Lot) (cs : List Cut) → CutsOf T cs → (b d : Bool) → b ≡ some_overfull C T (cut_ends cs) → b ≡ d → overload C T ≡ cond d dead (to T)
-overload_by_cuts C T cs is b d told e = ap (λ q. cond q dead (to T)) (sym (some_same C T (cut_ends cs) (ends_of T) is.ends) ∙ sym told ∙ e)
+-- the distinct ends tell as much as the lots
+pub overload_by_ends : (C : ℕ) (T : List Lot) (es : List End) → DistinctEnds T es → (b d : Bool) → b ≡ some_overfull C T (end_minutes es) → b ≡ d → overload C T ≡ cond d dead (to T)
+overload_by_ends C T es is b d told e = ap (λ q. cond q dead (to T)) (sym (some_same C T (end_minutes es) (ends_of T) is.ends) ∙ sym told ∙ e)

@@ -10,8 +10,8 @@ use Rattle.rule.specs.Meanings.{Sound, Hopeless}
 use Rattle.rule.specs.Laws.Outcomes.{gives_either, dies_either}
 use Rattle.rule.proofs.Raises.{raise_lawful, raise_narrows, raise_keeps, raise_dies}
 use Rattle.rules.specs.TimeTable.{fixed_load, some_below, blocked, bound_of, time_table}
-use Rattle.rules.specs.Laws.Searches.{some_none, after_last_le}
 use Rattle.rules.specs.Laws.FixedParts.{load_of_fixed, blocked_before}
+use Rattle.rules.specs.Laws.Searches.{some_none, after_last_le}
 
 bound_kept : (C : ℕ) (T : List Lot) (ss : List ℕ) → Schedule C T ss → (j : ℕ) → j < length T → bound_of C T j ≤ slice_index ss j
 bound_kept C T ss s j h = after_last_le (blocked C T j) (ect (lot_at T j)) (slice_index ss j) (blocked_before C T ss s j h)

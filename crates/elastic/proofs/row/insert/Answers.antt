@@ -3,4 +3,4 @@ use Rattle.elastic.proofs.Inserts.{inserted_by_turn}
 use Rattle.elastic.proofs.row.insert.Goals as goal
 
 pub returns : goal.returns
-returns g c = inserted_by_turn c.args.cells.now c.args.len c.args.i c.args.element c.requires.0 c.requires.1 _ _ refl c.rotate_right.ensures.after
+returns g c = record { after = inserted_by_turn c.args.cells.now c.args.len c.args.i c.args.element c.requires.place.0 c.requires.place.1 _ _ refl c.rotate_right.ensures.after }

@@ -2,4 +2,4 @@ use Rattle.plan.proofs.Histories.{promise}
 use Rattle.plan.proofs.promise.plans_answer_to_their_books.Goals as goal
 
 pub returns : goal.returns
-returns c = promise
+returns c = record { promise = promise }

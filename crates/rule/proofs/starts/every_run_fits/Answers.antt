@@ -6,17 +6,21 @@ use Rattle.rule.proofs.starts.every_run_fits.Goals as goal
 
 pub loop-number-preserved : goal.loop-number-preserved
 loop-number-preserved c =
-    let held = rw c.bound_of.ensures at (sym c.fits.ensures ∙ c.if-not-fits.false) in
+    let held = rw c.bound_of.ensures.answer at (sym c.fits.ensures.answer ∙ c.if-not-fits.false) in
     sym (rw held at (fit_more (λ j. get_or c.args.bounds.now j 0) c.args.lots.now c.loop-number.number c.loop-number-test.true))
     ∙ c.loop-number.invariant
 
 pub returns-then-not-fits : goal.returns-then-not-fits
-returns-then-not-fits c =
-    let failed = rw c.bound_of.ensures at (sym c.fits.ensures ∙ c.if-not-fits.true) in
-    sym (rw failed at (fit_more (λ j. get_or c.args.bounds.now j 0) c.args.lots.now c.loop-number.number c.loop-number-test.true))
-    ∙ c.loop-number.invariant
+returns-then-not-fits c = record {
+  answer =
+      let failed = rw c.bound_of.ensures.answer at (sym c.fits.ensures.answer ∙ c.if-not-fits.true) in
+      sym (rw failed at (fit_more (λ j. get_or c.args.bounds.now j 0) c.args.lots.now c.loop-number.number c.loop-number-test.true))
+      ∙ c.loop-number.invariant;
+}
 
 pub returns : goal.returns
-returns c =
-    sym (at_drop_all (λ xs. all_fit (later_all (λ j. get_or c.args.bounds.now j 0) c.loop-number.number xs)) _ _ c.loop-number-test.false)
-    ∙ c.loop-number.invariant
+returns c = record {
+  answer =
+      sym (at_drop_all (λ xs. all_fit (later_all (λ j. get_or c.args.bounds.now j 0) c.loop-number.number xs)) _ _ c.loop-number-test.false)
+      ∙ c.loop-number.invariant;
+}

@@ -9,16 +9,18 @@ loop-number-preserved c =
     let r = c.loop-number.invariant.0 in
     elim c.if-lot-bound.branch [
       | then-lot-bound w ↦ (
-        moved_later r (omega arith) c.bound_of-bound.ensures w.if-lot-bound.true w.lots-is,
-        rw w.verdict-is (moved_other r (omega arith) c.bound_of-bound.ensures w.if-lot-bound.true w.lots-is),
+        moved_later r (omega arith) c.bound_of-bound.ensures.answer w.if-lot-bound.true w.lots-is,
+        rw w.verdict-is (moved_other r (omega arith) c.bound_of-bound.ensures.answer w.if-lot-bound.true w.lots-is),
       )
       | else-lot-bound w ↦ (
-        kept_later r (omega arith) c.bound_of-bound.ensures w.if-lot-bound.false w.lots-is,
+        kept_later r (omega arith) c.bound_of-bound.ensures.answer w.if-lot-bound.false w.lots-is,
         rw (w.verdict-is, w.lots-is, set-get_or) c.loop-number.invariant.1,
       )
     ]
 
 pub returns : goal.returns
-returns c =
-    answers_from_changed _ c.loop-number.invariant.0 c.loop-number-test.false c.loop-number.auto.lots
-    (sym c.every_run_fits.ensures ∙ c.if-not-every_run_fits.false) c.loop-number.invariant.1
+returns c = record {
+  answer =
+      answers_from_changed _ c.loop-number.invariant.0 c.loop-number-test.false c.loop-number.auto.lots
+      (sym c.every_run_fits.ensures.answer ∙ c.if-not-every_run_fits.false) c.loop-number.invariant.1;
+}

@@ -3,4 +3,4 @@ use Rattle.rule.specs.Laws.Mirror.{turned_twice}
 use Rattle.rule.proofs.turned.turned_twice.Goals as goal
 
 pub returns : goal.returns
-returns g c = (refl, turned_twice _ (g.met.X.Rule.sound c.args.rule))
+returns g c = record { alike = (refl, turned_twice _ (g.met.X.Rule.sound c.args.rule)) }

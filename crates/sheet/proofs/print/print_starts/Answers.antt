@@ -1,8 +1,8 @@
 use Rattle.std.proofs.Common.{◌≡◌, [], length, take, inl, inr}
 use Rattle.sheet.specs.Pages.{bytes_of}
-use Rattle.sheet.specs.Prints.{start_lines}
+use Rattle.sheet.specs.PrintLines.{start_lines}
 use Rattle.sheet.proofs.Pages.{room_past, adds_past, adds_none}
-use Rattle.sheet.proofs.Prints.{starts_from, no_starts, no_starts_unnamed}
+use Rattle.sheet.proofs.PrintLines.{starts_from, no_starts, no_starts_unnamed}
 use Rattle.sheet.proofs.print.print_starts.Goals as goal
 
 pub loop-name-preserved : goal.loop-name-preserved

@@ -1,8 +1,8 @@
 use Rattle.std.proofs.Common.{◌≡◌, [], inl, inr}
 use Rattle.sheet.specs.Pages.{bytes_of}
-use Rattle.sheet.specs.Prints.{window_lines}
+use Rattle.sheet.specs.PrintLines.{window_lines}
 use Rattle.sheet.proofs.Pages.{room_past, adds_past, adds_none}
-use Rattle.sheet.proofs.Prints.{windows_from, no_windows, no_windows_unnamed}
+use Rattle.sheet.proofs.PrintLines.{windows_from, no_windows, no_windows_unnamed}
 use Rattle.sheet.proofs.print.print_windows.Goals as goal
 
 pub loop-name-preserved : goal.loop-name-preserved

@@ -8,7 +8,7 @@ pub print_refusal-requires : goal.print_refusal-requires
 print_refusal-requires g c =
     let held = c.loop-desk.invariant in
     let took = c.in-Err.ensures.took in
-    refused_room c.loop-desk.desk c.run_line.new.desk c.loop-desk.page c.run_line.new.page c.in-Err.refusal _ held.orderly held.time held.room took.1 took.2 c.line.ensures
+    record { room = refused_room c.loop-desk.desk c.run_line.new.desk c.loop-desk.page c.run_line.new.page c.in-Err.refusal _ held.orderly held.time held.room took.1 took.2 c.line.ensures.answer }
 
 pub loop-desk-preserved : goal.loop-desk-preserved
 loop-desk-preserved g c =
@@ -27,6 +27,6 @@ returns-clause-adds g c =
     elim c.if-is_at_end.branch [
       | then-is_at_end w ↦
           let ended : IsTrue w.may_end.result = search rules in
-          c.loop-desk.invariant.prints [] c.loop-desk.page (prints_end _ c.loop-desk.desk c.loop-desk.reader (c.is_at_end.ensures.0 w.if-is_at_end.true) (w.may_end.ensures.0 ended)) (adds_nothing c.loop-desk.page)
+          c.loop-desk.invariant.prints [] c.loop-desk.page (prints_end _ c.loop-desk.desk c.loop-desk.reader (c.is_at_end.ensures.answer.0 w.if-is_at_end.true) (w.may_end.ensures.answer.0 ended)) (adds_nothing c.loop-desk.page)
       | else-is_at_end w ↦ absurd (search rules)
     ]

@@ -1,8 +1,9 @@
 use Rattle.std.proofs.Common.{◌≡◌, ℕ, List, length}
-use Rattle.sheet.specs.Desks.{Orderly, InTime, RoomFor}
+use Rattle.sheet.specs.Desks.{Orderly, RoomFor}
 use Rattle.sheet.specs.Pages.{Adds}
 use Rattle.sheet.specs.Runs.{new_desk, Prints}
 use Rattle.sheet.specs.declared.page.Page.{Page}
+use Rattle.sheet.proofs.Lengths.{InTime}
 use Rattle.sheet.proofs.runs.run_lines.Given as goal
 
 -- Whatever the lines left print is what is left to be printed of the sheet.

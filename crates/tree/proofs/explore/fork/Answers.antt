@@ -16,5 +16,5 @@ returns-clause-forked c =
     let T = c.args.lots.now in
     let j = c.args.number in
     c.push-2.ensures.pushed
-    ∙ ap₂ (λ (x : List Lot) (xs : List (List Lot)). x ∷ xs) (set-set T j _ _ ∙ ap (set T j) c.at_once.ensures)
-    (c.push.ensures.pushed ∙ ap (λ (x : List Lot). x ∷ unvisited c.args.trail.now) (ap (set T j) c.a_minute_later.ensures))
+    ∙ ap₂ (λ (x : List Lot) (xs : List (List Lot)). x ∷ xs) (set-set T j _ _ ∙ ap (set T j) c.at_once.ensures.answer)
+    (c.push.ensures.pushed ∙ ap (λ (x : List Lot). x ∷ unvisited c.args.trail.now) (ap (set T j) c.a_minute_later.ensures.answer))

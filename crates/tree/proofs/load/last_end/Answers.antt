@@ -8,6 +8,8 @@ use Rattle.tree.proofs.Loads.{end_is}
 use Rattle.tree.proofs.load.last_end.Goals as goal
 
 pub returns : goal.returns
-returns c =
-    let most = max_from_yields_List _ _ c.max.ensures.ran (YieldsList-from_map _ ect (YieldsList-from_slice c.args.lots.now cc) c.map.ensures.closure (λ x r q k. search (rules, tests))) in
-    c.unwrap_or.ensures ∙ ap (λ o. unwrap_or o 0) (sym (option_map_id _) ∙ most) ∙ end_is c.args.lots.now
+returns c = record {
+  answer =
+      let most = max_from_yields_List _ _ c.max.ensures.ran (YieldsList-from_map _ ect (YieldsList-from_slice c.args.lots.now cc) c.map.ensures.closure (λ x r q k. search (rules, tests))) in
+      c.unwrap_or.ensures ∙ ap (λ o. unwrap_or o 0) (sym (option_map_id _) ∙ most) ∙ end_is c.args.lots.now;
+}

@@ -3,4 +3,4 @@ use Rattle.std.proofs.lemmas.Int.{ints}
 use Rattle.elastic.proofs.profile.Point.add.Goals as goal
 
 pub returns : goal.returns
-returns c = ap₂ (λ available required. record { minute = c.args.self.now.minute; available = available; required = required }) (omega (arith, ints)) (omega (arith, ints))
+returns c = record { after = ap₂ (λ available required. record { minute = c.args.self.now.minute; available = available; required = required }) (omega (arith, ints)) (omega (arith, ints)) }

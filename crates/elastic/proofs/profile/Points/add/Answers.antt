@@ -10,33 +10,35 @@ enter-requires c =
     record {
       free = omega (arith, few.0, c.requires.profile.1);
       small = few_small _ _ few (omega (arith, c.requires.profile.1));
-      small_change = subst (Small max_capacity) (sym c.at_est.ensures) (small_at_est _ c.requires.lawful);
+      small_change = subst (Small max_capacity) (sym c.at_est.ensures.answer) (small_at_est _ c.requires.lawful);
     }
 
 pub enter-requires-2 : goal.enter-requires-2
 enter-requires-2 c =
-    let first = subst (Small max_capacity) (sym c.at_est.ensures) (small_at_est _ c.requires.lawful) in
-    let few = few_more _ _ _ _ (few_from_profile _ _ c.requires.profile.2) first c.enter.ensures in
+    let first = subst (Small max_capacity) (sym c.at_est.ensures.answer) (small_at_est _ c.requires.lawful) in
+    let few = few_more _ _ _ _ (few_from_profile _ _ c.requires.profile.2) first c.enter.ensures.after in
     record {
       free = omega (arith, few.0, c.requires.profile.1);
       small = few_small _ _ few (omega (arith, c.requires.profile.1));
-      small_change = subst (Small max_capacity) (sym c.at_ect.ensures) (small_at_ect _ c.requires.lawful);
+      small_change = subst (Small max_capacity) (sym c.at_ect.ensures.answer) (small_at_ect _ c.requires.lawful);
     }
 
 pub enter-requires-3 : goal.enter-requires-3
 enter-requires-3 c =
-    let first = subst (Small max_capacity) (sym c.at_est.ensures) (small_at_est _ c.requires.lawful) in
-    let second = subst (Small max_capacity) (sym c.at_ect.ensures) (small_at_ect _ c.requires.lawful) in
-    let few = few_more _ _ _ _ (few_more _ _ _ _ (few_from_profile _ _ c.requires.profile.2) first c.enter.ensures) second c.enter-2.ensures in
+    let first = subst (Small max_capacity) (sym c.at_est.ensures.answer) (small_at_est _ c.requires.lawful) in
+    let second = subst (Small max_capacity) (sym c.at_ect.ensures.answer) (small_at_ect _ c.requires.lawful) in
+    let few = few_more _ _ _ _ (few_more _ _ _ _ (few_from_profile _ _ c.requires.profile.2) first c.enter.ensures.after) second c.enter-2.ensures.after in
     record {
       free = omega (arith, few.0, c.requires.profile.1);
       small = few_small _ _ few (omega (arith, c.requires.profile.1));
-      small_change = subst (Small max_capacity) (sym c.at_lct.ensures) (small_at_lct _ c.requires.lawful);
+      small_change = subst (Small max_capacity) (sym c.at_lct.ensures.answer) (small_at_lct _ c.requires.lawful);
     }
 
 pub returns : goal.returns
-returns c Ω Ψ p =
-    profiles_between _ _ _ _ Ω Ψ _ p c.requires.lawful
-    (entered_as _ _ _ _ c.at_est.ensures c.enter.ensures)
-    (entered_as _ _ _ _ c.at_ect.ensures c.enter-2.ensures)
-    (entered_as _ _ _ _ c.at_lct.ensures c.enter-3.ensures)
+returns c = record {
+  after = λ Ω Ψ p.
+      profiles_between _ _ _ _ Ω Ψ _ p c.requires.lawful
+      (entered_as _ _ _ _ c.at_est.ensures.answer c.enter.ensures.after)
+      (entered_as _ _ _ _ c.at_ect.ensures.answer c.enter-2.ensures.after)
+      (entered_as _ _ _ _ c.at_lct.ensures.answer c.enter-3.ensures.after);
+}

@@ -15,11 +15,15 @@ alter-requires c =
     }
 
 pub returns-in-Placed : goal.returns-in-Placed
-returns-in-Placed c =
-    let told = c.in-Placed.ensures in
-    entered_by_put max_points _ _ c.args.change _ told.put (told.seated nat_cmp_total) (told.ascends nat_cmp_total).1
+returns-in-Placed c = record {
+  after =
+      let told = c.in-Placed.ensures in
+      entered_by_put max_points _ _ c.args.change _ told.put (told.seated nat_cmp_total) (told.ascends nat_cmp_total).1;
+}
 
 pub returns-in-Present : goal.returns-in-Present
-returns-in-Present c =
-    let told = c.in-Present.ensures in
-    entered_by_alter max_points _ _ c.args.change _ told.put (told.seated nat_cmp_total) (told.ascends nat_cmp_total).0 _ c.alter.ensures
+returns-in-Present c = record {
+  after =
+      let told = c.in-Present.ensures in
+      entered_by_alter max_points _ _ c.args.change _ told.put (told.seated nat_cmp_total) (told.ascends nat_cmp_total).0 _ c.alter.ensures.after;
+}

@@ -16,4 +16,4 @@ invariant_of-self c =
     let lawful = lawful_under_most _ _ p.table.lawful in
     let marks : c.args.number < length p.added = omega (arith, c.if-number-lots.true, lawful.few_lots) in
     let r = those_more p.added p.table.lots.now c.args.number c.if-number-lots.true marks c.if-not-self-number.true in
-    record { profiles = subst (Profiles _) (sym r.with_it) (c.add.ensures _ _ (subst (Profiles _) r.without p.profiles)) }
+    record { profiles = subst (Profiles _) (sym r.with_it) (c.add.ensures.after _ _ (subst (Profiles _) r.without p.profiles)) }

@@ -13,7 +13,7 @@ walk-requires-clause-profile c =
 pub returns-clause-left : goal.returns-clause-left
 returns-clause-left c =
     let p = c.args.self.now in
-    c.walk.ensures _ (those_lawful p.added _ _ p.table.lawful)
+    c.walk.ensures.answer _ (those_lawful p.added _ _ p.table.lawful)
     (subst (λ ps. Profiles ps (those p.added p.table.lots.now)) (sym c.as_slice-points.ensures.row) p.profiles)
     ∙ ap (overflow p.table.capacity) (nothing_kept _)
 

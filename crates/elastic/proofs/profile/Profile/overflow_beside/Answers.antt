@@ -10,15 +10,15 @@ walk-left-requires c =
     let p = c.args.self.now in
     record {
       profile = (_, those_lawful p.added _ _ p.table.lawful, subst (λ ps. Profiles ps (those p.added p.table.lots.now)) (sym c.as_slice-points.ensures.row) p.profiles);
-      fits = omega (arith, c.trays.ensures, trays_fit p.table.capacity p.table.lots.now c.args.number p.table.lawful.each);
+      fits = omega (arith, c.trays.ensures.answer, trays_fit p.table.capacity p.table.lots.now c.args.number p.table.lawful.each);
     }
 
 pub returns-clause-left : goal.returns-clause-left
 returns-clause-left c =
     let p = c.args.self.now in
     let some = those p.added p.table.lots.now in
-    c.walk-left.ensures _ (those_lawful p.added _ _ p.table.lawful) (subst (λ ps. Profiles ps some) (sym c.as_slice-points.ensures.row) p.profiles)
-    ∙ ap (λ n. overflow p.table.capacity (some ++ kept n c.args.until some)) c.trays.ensures
+    c.walk-left.ensures.answer _ (those_lawful p.added _ _ p.table.lawful) (subst (λ ps. Profiles ps some) (sym c.as_slice-points.ensures.row) p.profiles)
+    ∙ ap (λ n. overflow p.table.capacity (some ++ kept n c.args.until some)) c.trays.ensures.answer
 
 pub returns-clause-points : goal.returns-clause-points
 returns-clause-points c = ap length c.as_slice-points.ensures.row ∙ c.args.self.now.profiles.count

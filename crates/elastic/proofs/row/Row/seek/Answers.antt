@@ -4,10 +4,10 @@ use Rattle.elastic.specs.Rows.{Ascending, Sought}
 use Rattle.elastic.proofs.Rows.{take_min, sought}
 use Rattle.elastic.proofs.row.Row.seek.Goals as goal
 
-pub returns-clause-found : goal.returns-clause-found
-returns-clause-found g c o =
+pub returns-clause-sought : goal.returns-clause-sought
+returns-clause-sought g c o =
     let told = c.binary_search_by_key.ensures in
     let by_key = told.position g.E.Keyed.keyed (answers_always _ _ _ (λ f a r f' called. search rules)) in
     subst (λ row. Ascending o g.E.Keyed.keyed row → Sought o g.E.Keyed.keyed c.args.key row c.binary_search_by_key.result)
-    (take_min _ _ _ c.len-len.ensures)
+    (take_min _ _ _ c.len-len.ensures.answer)
     (sought o g.E.Keyed.keyed _ _ _ told.bound by_key)

@@ -7,18 +7,20 @@ use Rattle.rule.specs.Laws.Turns.{lawful_week, turn_lawful}
 use Rattle.rule.proofs.turned.TurnedRule.apply.Goals as goal
 
 pub turn-requires : goal.turn-requires
-turn-requires g c = lawful_week c.args.capacity _ c.in_ok-new.ensures.2
+turn-requires g c = record { in_week = lawful_week c.args.capacity _ c.in_ok-new.ensures.answer.2 }
 
 pub turn-requires-2 : goal.turn-requires-2
 turn-requires-2 g c =
-    let ok = turn_lawful c.args.capacity _ c.in_ok-new.ensures.2 in
-    let a = rw c.turn.ensures at c.apply-answer.ensures in
-    lawful_week c.args.capacity _ (applied_lawful _ (g.met.X.Rule.sound c.args.self.now.rule) _ _ _ _ ok a)
+    let ok = turn_lawful c.args.capacity _ c.in_ok-new.ensures.answer.2 in
+    let a = rw c.turn.ensures.after at c.apply-answer.ensures.answer in
+    record { in_week = lawful_week c.args.capacity _ (applied_lawful _ (g.met.X.Rule.sound c.args.self.now.rule) _ _ _ _ ok a) }
 
 pub returns : goal.returns
-returns g c =
-    let ok = c.in_ok-new.ensures.2 in
-    let a = rw c.turn.ensures at c.apply-answer.ensures in
-    let m = turned (g.X.Rule.meaning c.args.self.now.rule) in
-    subst (λ V. Applied m c.args.capacity c.args.lots.now V c.apply-answer.result) (sym c.turn-2.ensures)
-    (turned_applied _ (g.met.X.Rule.sound c.args.self.now.rule) _ _ _ _ ok a)
+returns g c = record {
+  answer =
+      let ok = c.in_ok-new.ensures.answer.2 in
+      let a = rw c.turn.ensures.after at c.apply-answer.ensures.answer in
+      let m = turned (g.X.Rule.meaning c.args.self.now.rule) in
+      subst (λ V. Applied m c.args.capacity c.args.lots.now V c.apply-answer.result) (sym c.turn-2.ensures.after)
+      (turned_applied _ (g.met.X.Rule.sound c.args.self.now.rule) _ _ _ _ ok a);
+}

@@ -1,27 +1,34 @@
-use Rattle.std.proofs.Common.{◌≡◌, max, refl, sym, ap₂, ◌∙◌, rules, arith}
-use Rattle.rules.specs.Cuts.{cut_at}
-use Rattle.rules.proofs.GrowingCuts.{none_marked, inside_later, end_rises, greatest_more}
+use Rattle.std.proofs.Common.{◌≡◌, max, refl, sym, ap₂, ◌∙◌, rules}
+use Rattle.rules.proofs.GrowingCuts.{lowest_at, before_first, before_next, greatest_more}
 use Rattle.rules.proofs.not_first.Candidate.bound.Goals as goal
 
-pub loop-cut-init : goal.loop-cut-init
-loop-cut-init c =
+pub loop-end-init : goal.loop-end-init
+loop-end-init c =
     let self = c.args.self in
     record {
       table = c.new-profile.ensures.table;
-      inside = λ j l h. none_marked self.table.lots.now self.number (cut_at c.args.cuts.now j).lct _ c.new-profile.ensures.none;
+      before = λ some. before_first self.table.lots.now self.number c.args.ends.now c.requires.all _ some c.new-profile.ensures.none;
       greatest = refl;
     }
 
-pub loop-cut-preserved : goal.loop-cut-preserved
-loop-cut-preserved c =
+pub loop-end-preserved : goal.loop-end-preserved
+loop-end-preserved c =
     let self = c.args.self in
     let T = self.table.lots.now in
-    let cuts = c.args.cuts.now in
-    let i = c.loop-cut.cut-index in
-    let most : c.max-bound.result ≡ max c.loop-cut.bound c.bound_at.result = search rules in
+    let ends = c.args.ends.now in
+    let i = c.loop-end.end-index in
+    let most : c.max-bound.result ≡ max c.loop-end.bound c.bound_at.result = search rules in
     record {
       table = c.bound_at.ensures.table;
-      inside = λ j l h.
-          inside_later T self.number (cut_at cuts i).lct (cut_at cuts j).lct _ (end_rises cuts c.requires i j (omega (arith, l)) h) c.bound_at.ensures.inside;
-      greatest = most ∙ ap₂ max c.loop-cut.invariant.greatest c.bound_at.ensures.bound ∙ sym (greatest_more self.table.capacity T self.number cuts i c.loop-cut-test.true);
+      before = λ more. before_next T self.number ends c.requires.all _ i more c.bound_at.ensures.cut;
+      greatest = most ∙ ap₂ max c.loop-end.invariant.greatest c.bound_at.ensures.bound ∙ sym (greatest_more self.table.capacity T self.number ends i c.loop-end-test.true);
+    }
+
+pub bound_at-requires : goal.bound_at-requires
+bound_at-requires c =
+    let T = c.args.self.table.lots.now in
+    record {
+      table = c.loop-end.invariant.table;
+      lowest = lowest_at T c.args.self.number c.args.ends.now c.requires.all c.loop-end.end-index c.loop-end-test.true;
+      before = c.loop-end.invariant.before c.loop-end-test.true;
     }

@@ -10,25 +10,25 @@ pub returns-then-left-eq0-clause-bound : goal.returns-then-left-eq0-clause-bound
 returns-then-left-eq0-clause-bound c =
     let self = c.args.self in
     let T = self.table.lots.now in
-    let end : c.min-end.result ≡ min (ect (lot_at T self.number)) c.args.minute = c.min-end.ensures ∙ ap (λ (x : Lot). min (ect x) c.args.minute) c.lot-lot.ensures in
-    let left = left_beside self.table.capacity T self.number c.args.minute _ c.grow.ensures.cut _ end _ (rw c.grow.ensures.table at c.overflow_beside-left.ensures.left) in
-    sym (none_left self.table.capacity T self.number c.args.minute (sym c.ends_at.ensures ∙ c.if-not-ends_at.false) _ left c.if-left-eq0.true)
+    let until : c.min-until.result ≡ min (ect (lot_at T self.number)) c.args.end.lct = c.min-until.ensures ∙ ap (λ (x : Lot). min (ect x) c.args.end.lct) c.lot-lot.ensures.answer in
+    let left = left_beside self.table.capacity T self.number c.args.end.lct _ c.grow.ensures.cut _ until _ (rw c.grow.ensures.table at c.overflow_beside-left.ensures.left) in
+    sym (none_left self.table.capacity T self.number c.args.end.lct (sym c.grow.ensures.grown ∙ c.if-not-grow.false) _ left c.if-left-eq0.true)
 
 pub overflow_cast-result : goal.overflow_cast-result
 overflow_cast-result c =
     let self = c.args.self in
     omega (
       arith,
-      c.least_end.ensures,
-      ap least_ect (c.as_slice.ensures.value ∙ c.cut.ensures),
-      cut_least _ self.table.lots.now self.table.lawful self.number c.args.minute,
+      c.least_end.ensures.answer,
+      ap least_ect (c.as_slice.ensures.value ∙ c.cut.ensures.answer),
+      cut_least _ self.table.lots.now self.table.lawful self.number c.args.end.lct,
     )
 
 pub returns-clause-bound : goal.returns-clause-bound
 returns-clause-bound c =
     let self = c.args.self in
     let T = self.table.lots.now in
-    let end : c.min-end.result ≡ min (ect (lot_at T self.number)) c.args.minute = c.min-end.ensures ∙ ap (λ (x : Lot). min (ect x) c.args.minute) c.lot-lot.ensures in
-    let left = left_beside self.table.capacity T self.number c.args.minute _ c.grow.ensures.cut _ end _ (rw c.grow.ensures.table at c.overflow_beside-left.ensures.left) in
-    c.least_end.ensures ∙ ap least_ect (c.as_slice.ensures.value ∙ c.cut.ensures)
-    ∙ sym (some_left self.table.capacity T self.number c.args.minute (sym c.ends_at.ensures ∙ c.if-not-ends_at.false) _ left c.if-left-eq0.false)
+    let until : c.min-until.result ≡ min (ect (lot_at T self.number)) c.args.end.lct = c.min-until.ensures ∙ ap (λ (x : Lot). min (ect x) c.args.end.lct) c.lot-lot.ensures.answer in
+    let left = left_beside self.table.capacity T self.number c.args.end.lct _ c.grow.ensures.cut _ until _ (rw c.grow.ensures.table at c.overflow_beside-left.ensures.left) in
+    c.least_end.ensures.answer ∙ ap least_ect (c.as_slice.ensures.value ∙ c.cut.ensures.answer)
+    ∙ sym (some_left self.table.capacity T self.number c.args.end.lct (sym c.grow.ensures.grown ∙ c.if-not-grow.false) _ left c.if-left-eq0.false)

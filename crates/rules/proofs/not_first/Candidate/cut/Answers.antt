@@ -4,6 +4,8 @@ use Rattle.rules.specs.NotFirst.{in_cut}
 use Rattle.rules.proofs.not_first.Candidate.cut.Goals as goal
 
 pub returns : goal.returns
-returns c =
-    let self = c.args.self in
-    c.chosen.ensures (in_cut self.number (lot_at self.table.lots.now self.number).est c.args.minute) (λ k x b q. search rules)
+returns c = record {
+  answer =
+      let self = c.args.self in
+      c.chosen.ensures.answer (in_cut self.number (lot_at self.table.lots.now self.number).est c.args.minute) (λ k x b q. search rules);
+}

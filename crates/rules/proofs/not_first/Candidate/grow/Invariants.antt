@@ -1,11 +1,15 @@
-use Rattle.std.proofs.Common.{◌≡◌}
-use Rattle.rules.specs.GrowingCuts.{Inside}
-use Rattle.rules.proofs.GrowingCuts.{Marked}
+use Rattle.std.proofs.Common.{◌≡◌, take}
+use Rattle.lots.specs.Tables.{lot_at}
+use Rattle.elastic.specs.Profile.{has}
+use Rattle.rules.specs.Chosen.{chosen}
+use Rattle.rules.specs.Ends.{ends_of}
+use Rattle.rules.specs.NotFirst.{in_cut}
+use Rattle.rules.proofs.GrowingCuts.{Growing}
 use Rattle.rules.proofs.not_first.Candidate.grow.Given as goal
 
 abbrev pub invariant-loop-number : goal.invariant-loop-number
 invariant-loop-number l = record {
   table : l.profile.table ≡ l.self.table;
-  inside : Inside l.self.table.lots.now l.self.number l.minute l.profile.added;
-  so_far : Marked l.self.table.lots.now l.self.number l.minute l.number l.profile.added;
+  growing : Growing l.self.table.lots.now l.self.number l.end.lct l.number l.profile.added;
+  grown : l.grown ≡ has l.end.lct (ends_of (chosen (in_cut l.self.number (lot_at l.self.table.lots.now l.self.number).est l.end.lct) 0 (take l.number l.self.table.lots.now)));
 }

@@ -10,12 +10,14 @@ use Rattle.rules.proofs.time_table.Loads.bound.Goals as goal
 pub find-requires-clause-callable : goal.find-requires-clause-callable
 find-requires-clause-callable c =
     let few = load_few c.args.self.now in
-    let week : ect c.args.lot ≤ horizon = omega (arith, c.requires.has_time, c.requires.in_week) in
+    let week : ect c.args.lot ≤ horizon = omega (arith, c.requires.lawful.has_time, c.requires.lawful.in_week) in
     grind serving
 
 pub returns : goal.returns
-returns c =
-    let blocked : ℕ → Bool = blocked_under c.args.self.now.by_minute c.args.self.now.table.capacity c.args.lot in
-    let last : IsLastBelow blocked (ect c.args.lot) c.find.result = search (rules, ranges) in
-    let bound : MatchOption c.find.result (c.map_or.result ≡ 0) (λ m. c.map_or.result ≡ m + 1) = search rules in
-    after_last_found blocked _ _ _ last bound
+returns c = record {
+  answer =
+      let blocked : ℕ → Bool = blocked_under c.args.self.now.by_minute c.args.self.now.table.capacity c.args.lot in
+      let last : IsLastBelow blocked (ect c.args.lot) c.find.result = search (rules, ranges) in
+      let bound : MatchOption c.find.result (c.map_or.result ≡ 0) (λ m. c.map_or.result ≡ m + 1) = search rules in
+      after_last_found blocked _ _ _ last bound;
+}

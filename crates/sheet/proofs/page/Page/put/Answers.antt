@@ -9,7 +9,7 @@ returns-clause-adds c =
     let end = n + length c.args.bytes.now in
     record {
       longer = refl;
-      text = rw c.copy_from_slice.ensures.after (take-put_mid n _ c.args.self.now.buffer.now _ end (omega (arith)) (omega (arith, c.requires)));
-      rest = drop-put_mid n _ c.args.self.now.buffer.now _ end (omega arith) (omega (arith, c.requires)) (grind arith);
+      text = rw c.copy_from_slice.ensures.after (take-put_mid n _ c.args.self.now.buffer.now _ end (omega (arith)) (omega (arith, c.requires.room)));
+      rest = drop-put_mid n _ c.args.self.now.buffer.now _ end (omega arith) (omega (arith, c.requires.room)) (grind arith);
       same_size = same_len_mid n _ c.args.self.now.buffer.now _ c.copy_from_slice.auto.self;
     }

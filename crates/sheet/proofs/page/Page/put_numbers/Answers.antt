@@ -1,6 +1,6 @@
 use Rattle.std.proofs.Common.{◌≡◌, ℕ, ◌+◌, ◌<◌, List, [], ◌++◌, length, codes, decimal, get_or, drop, sym, refl, subst, drop-cons, add-one, arith}
 use Rattle.std.proofs.lemmas.List.{drop_all}
-use Rattle.sheet.specs.Lines.{numbers}
+use Rattle.lots.specs.Texts.{numbers}
 use Rattle.sheet.specs.Pages.{Adds, HasRoom}
 use Rattle.sheet.specs.declared.page.Page.{Page}
 use Rattle.sheet.proofs.Pages.{adds_nothing, adds_then, room_after, room_between, room_front}
@@ -17,17 +17,17 @@ adds_from : (p q : Page) (ns : List ℕ) (i : ℕ) → i < length ns → Adds p 
 adds_from p q ns i h a = subst (λ bs. Adds p bs q) (sym (numbers_from ns i h)) a
 
 pub loop-number-init : goal.loop-number-init
-loop-number-init c = record { same_buffer = refl; room = c.requires; adds = λ q a. a }
+loop-number-init c = record { same_buffer = refl; room = c.requires.room; adds = λ q a. a }
 
 pub put-requires : goal.put-requires
 put-requires c =
     let room = room_from c.loop-number.self c.args.numbers.now c.loop-number.number-index c.loop-number-test.true c.loop-number.invariant.room in
-    room_front c.loop-number.self (codes " ") _ room
+    record { room = room_front c.loop-number.self (codes " ") _ room }
 
 pub put_number-requires : goal.put_number-requires
 put_number-requires c =
     let room = room_from c.loop-number.self c.args.numbers.now c.loop-number.number-index c.loop-number-test.true c.loop-number.invariant.room in
-    room_between (codes " ") _ _ room c.put.ensures.adds
+    record { room = room_between (codes " ") _ _ room c.put.ensures.adds }
 
 pub loop-number-preserved : goal.loop-number-preserved
 loop-number-preserved c =

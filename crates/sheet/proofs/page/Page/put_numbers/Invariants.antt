@@ -1,5 +1,5 @@
 use Rattle.std.proofs.Common.{◌≡◌, drop}
-use Rattle.sheet.specs.Lines.{numbers}
+use Rattle.lots.specs.Texts.{numbers}
 use Rattle.sheet.specs.Pages.{Adds, HasRoom}
 use Rattle.sheet.specs.declared.page.Page.{Page}
 use Rattle.sheet.proofs.page.Page.put_numbers.Given as goal

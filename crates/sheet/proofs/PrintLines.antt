@@ -1,10 +1,10 @@
 -- The lines of windows and of starts, one after another.
 use Rattle.std.proofs.Common.{◌≡◌, ℕ, List, [], ◌∷◌, ◌++◌, length, take, codes, refl, arith}
 use Rattle.std.specs.Borrow.{Bor}
+use Rattle.lots.specs.Texts.{numbers}
 use Rattle.lots.specs.declared.Lot.{Lot}
-use Rattle.sheet.specs.Lines.{numbers}
 use Rattle.sheet.specs.Pages.{bytes_of}
-use Rattle.sheet.specs.Prints.{ended, window_lines, start_lines}
+use Rattle.sheet.specs.PrintLines.{ended, window_lines, start_lines}
 
 -- a line of a word, some numbers and a name
 abbrev pub named : List ℕ → List ℕ → List ℕ → List ℕ

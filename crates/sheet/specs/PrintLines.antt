@@ -1,14 +1,15 @@
 -- What is printed.
 use Rattle.std.specs.Prelude.{ℕ, List, [], ◌∷◌, ◌++◌, length, take, codes}
 use Rattle.lots.specs.Refusals.{refusal_number}
+use Rattle.lots.specs.Texts.{numbers}
 use Rattle.lots.specs.declared.Lot.{Lot}
 use Rattle.lots.specs.declared.Refusal.{Refusal}
 use Rattle.rule.specs.Verdicts.{shown_verdict}
 use Rattle.rule.specs.declared.Verdict.{Verdict}
-use Rattle.rule.specs.declared.Verdict.TheVariants.{Still, Moved, Dead}
+use Rattle.rule.specs.declared.Verdict.TheVariants.{Dead}
 use Rattle.tree.specs.declared.Search.{Search}
 use Rattle.tree.specs.declared.Search.TheVariants.{Best, None, Spent}
-use Rattle.sheet.specs.Lines.{newline, numbers}
+use Rattle.sheet.specs.Lines.{newline}
 
 abbrev pub ended : List ℕ → List ℕ
 ended bs = bs ++ newline ∷ []
@@ -24,9 +25,8 @@ window_lines (w ∷ ws) (x ∷ xs) = ended (codes "W" ++ (numbers (x.est ∷ x.l
 
 -- the windows are not printed where the verdict is dead
 abbrev pub windows_unless_dead : Verdict → List (List ℕ) → List Lot → List ℕ
-windows_unless_dead Still names T = window_lines names T
-windows_unless_dead Moved names T = window_lines names T
 windows_unless_dead Dead names T = []
+windows_unless_dead v names T = window_lines names T
 
 -- the verdict v after k applications, where T are the lots afterwards
 abbrev pub tighten_print : Verdict → ℕ → List (List ℕ) → List Lot → List ℕ

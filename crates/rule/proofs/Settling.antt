@@ -1,9 +1,9 @@
--- One move more, and the end of a chain of moves.
+-- One move more, and what settling answers at the end of the moves.
 use Rattle.std.proofs.Common.{◌≡◌, ℕ, ◌+◌, ◌<◌, List, sym, refl, ◌∙◌, subst, add-one, arith}
-use Rattle.rule.specs.Meanings.{Meaning, to}
 use Rattle.lots.specs.declared.Lot.{Lot}
-use Rattle.rule.specs.declared.Verdict.TheVariants.{Still, Moved}
+use Rattle.rule.specs.Meanings.{Meaning, to}
 use Rattle.rule.specs.Settled.{Moves, none, more, Settled}
+use Rattle.rule.specs.declared.Verdict.TheVariants.{Still, Moved}
 
 module _ {m : Meaning} {C : ℕ} {T : List Lot} where
   pub moves_more : {n : ℕ} {U V : List Lot} → Moves m C T n U → m C U ≡ to V → (V ≡ U → ⊥) → Moves m C T (n + 1) V

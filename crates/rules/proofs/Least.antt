@@ -1,4 +1,4 @@
--- What a chain of iterators finds among lots.
+-- The least of a list of lots, as a chain of iterators finds it.
 use Rattle.std.proofs.Common.{◌≡◌, ℕ, min, List, [], ◌∷◌, map, sym, ◌∙◌, arith}
 use Rattle.std.specs.List.{fold, reduce}
 use Rattle.std.specs.Prelude.{unwrap_or}

@@ -1,0 +1,36 @@
+// The distinct latest ends of a table, in their order.
+ghost use Rattle.rules.specs.Ends.{DistinctEnds};
+
+use elastic::{ArrayRow, Keyed};
+use lots::{MAX_LOTS, Table};
+
+// A latest end, with the lowest number of a lot that has it, at which the search for the lots of this end begins.
+#[derive(Clone, Copy, Default)]
+pub(crate) struct End {
+    pub(crate) lct: u16,
+    pub(crate) lot: usize,
+}
+
+impl Keyed for End {
+    type Key = u16;
+
+    ghost keyed = { λ x. x.lct };
+
+    fn key(&self) -> u16 {
+        self.lct
+    }
+}
+
+// Of the lots with one latest end, the first to come is the lowest, and stays.
+pub(crate) fn distinct_ends(table: Table<'_>) -> ArrayRow<End, MAX_LOTS>
+    ensures answer { DistinctEnds table.entry.lots.now result }
+{
+    let mut ends = ArrayRow::new();
+    for (number, lot) in table.lots.iter().enumerate() {
+        ends.put(End {
+            lct: lot.lct,
+            lot: number,
+        });
+    }
+    ends
+}
