@@ -29,9 +29,14 @@ unknown_arguments : (n : Name) (words : List (List ℕ)) → (Asks n words → �
 unknown_arguments n words none (m, named, asked) = none (subst (λ k. Asks k words) (sym (one_name n m named)) asked)
 
 -- what came of the words after a name is what came of the whole line
-pub comes_named : (n : Name) (words : List (List ℕ)) (P Q : Table) (r : Result Answer Fault)
+comes_named : (n : Name) (words : List (List ℕ)) (P Q : Table) (r : Result Answer Fault)
     → Comes (Answers n words) (Asks n words → ⊥) P Q r → Comes (Made (word_of n ∷ words)) (Known (word_of n ∷ words) → ⊥) P Q r
 comes_named n words P Q (Ok a) is = (n, refl, is)
 comes_named n words P Q (Err (fault.Refused refusal)) is = (n, refl, is)
 comes_named n words P Q (Err fault.Unknown) none = (unknown_arguments n words none.0, none.1)
 comes_named n words P Q (Err fault.Memory) same = same
+
+-- the same, where the pieces ps of a line are the name and the words after it
+pub comes_of_line : (n : Name) (ps words : List (List ℕ)) (P Q : Table) (r : Result Answer Fault) → ps ≡ word_of n ∷ words
+    → Comes (Answers n words) (Asks n words → ⊥) P Q r → Comes (Made ps) (Known ps → ⊥) P Q r
+comes_of_line n ps words P Q r named is = rw named (comes_named n words P Q r is)
