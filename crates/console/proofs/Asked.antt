@@ -1,5 +1,5 @@
 -- What the words of a line ask.
-use Rattle.std.proofs.Common.{◌≡◌, ℕ, cond, eqb, List, ◌∷◌, length, get_or, Ok, Err, Result, sym, refl, ap, ◌∙◌, subst}
+use Rattle.std.proofs.Common.{◌≡◌, ℕ, if◌then◌else◌, eqb, List, ◌∷◌, length, get_or, Ok, Err, Result, sym, refl, ap, ◌∙◌, subst}
 use Rattle.plan.specs.Tables.{Table}
 use Rattle.console.specs.Lines.{Name, overflow_call, rule_call, open_call, admit_call, narrow_call, tighten_call, solve_call, windows_call, word_of, Asks, Known, Answers, Made, Comes}
 use Rattle.console.specs.declared.answers.Answer.{Answer}
@@ -9,7 +9,7 @@ use Rattle.console.specs.declared.answers.Fault.TheVariants as fault
 -- the name that a word is, by its first byte; of the two that begin with an `o`, overflow is the longer
 abbrev name_by : ℕ → ℕ → Name
 name_by b count =
-    cond (eqb b 114) rule_call (cond (eqb b 97) admit_call (cond (eqb b 110) narrow_call (cond (eqb b 116) tighten_call (cond (eqb b 115) solve_call (cond (eqb b 119) windows_call (cond (eqb count 8) overflow_call open_call))))))
+    if eqb b 114 then rule_call else (if eqb b 97 then admit_call else (if eqb b 110 then narrow_call else (if eqb b 116 then tighten_call else (if eqb b 115 then solve_call else (if eqb b 119 then windows_call else (if eqb count 8 then overflow_call else open_call))))))
 
 name_by_word : (n : Name) → name_by (get_or (word_of n) 0 0) (length (word_of n)) ≡ n
 name_by_word overflow_call = refl

@@ -1,5 +1,5 @@
 -- What a call of `next` takes from a text that is cut at an ASCII character.
-use Rattle.std.proofs.Common.{◌≡◌, ℕ, ◌<◌, Bool, false, cond, eqb, true, List, [], ◌∷◌, ◌++◌, take, drop, Some, None, Option, sym, refl, ap, ◌∙◌, arith, rules, Bor, MatchOption}
+use Rattle.std.proofs.Common.{◌≡◌, ℕ, ◌<◌, Bool, false, if◌then◌else◌, eqb, true, List, [], ◌∷◌, ◌++◌, take, drop, Some, None, Option, sym, refl, ap, ◌∙◌, arith, rules, Bor, MatchOption}
 use Rattle.std.specs.declared.str.Split.{Split}
 use Rattle.std.specs.Iterator.{YieldsFirstRef, MakesProgress, item_count}
 use Rattle.std.specs.List.{All}
@@ -18,7 +18,7 @@ no_mark : (c : ℕ) (bs : List ℕ) → c < 128 → NoCharPasses (λ d. eqb d c)
 no_mark c bs ascii none = All-from_get_or (λ b. eqb b c ≡ false) bs 0 (λ i within. ne_eqb _ c (NoCharPasses-char c bs i none ascii within))
 
 pieces_at_mark : (c : ℕ) (w x : List ℕ) (more : Bool) (rest : List ℕ) → c < 128 → (o : Option (ℕ × ℕ)) → FindsChar c w o
-    → MatchOption o ((x ≡ w) × (more ≡ false)) (λ q. 0 < q.1 → (x ≡ take q.0 w) × (more ≡ true) × (rest ≡ drop q.1 w)) → pieces c w ≡ x ∷ cond more (pieces c rest) []
+    → MatchOption o ((x ≡ w) × (more ≡ false)) (λ q. 0 < q.1 → (x ≡ take q.0 w) × (more ≡ true) × (rest ≡ drop q.1 w)) → pieces c w ≡ x ∷ (if more then pieces c rest else [])
 pieces_at_mark c w x more rest ascii None finds is = rw (is.0, is.1) (slice_split_none (λ b. eqb b c) w (no_mark c w ascii finds))
 pieces_at_mark c w x more rest ascii (Some q) finds is =
     let cut = is (omega (arith, finds.1.ends, (len_utf8_bounds c).0)) in

@@ -1,5 +1,5 @@
 -- How a line writes words, numbers and cells.
-use Rattle.std.specs.Prelude.{◌≡◌, ℕ, ◌+◌, ◌-◌, ◌*◌, ◌^◌, ◌<◌, true, cond, List, [], ◌∷◌, length, ◌==◌}
+use Rattle.std.specs.Prelude.{◌≡◌, ℕ, ◌+◌, ◌-◌, ◌*◌, ◌^◌, ◌<◌, true, if◌then◌else◌, List, [], ◌∷◌, length, ◌==◌}
 use Rattle.std.specs.List.{AllZip, slice_split}
 use Rattle.std.specs.declared.str.Split.{Split}
 use Rattle.std.specs.Str.Iter.{split_text, split_has_more, split_pattern}
@@ -17,7 +17,7 @@ pieces c bs = slice_split (λ b. b == c) bs
 
 -- the pieces that a cut text has still to give
 abbrev pub to_come : Split ℕ → List (List ℕ)
-to_come s = cond (split_has_more s) (pieces (split_pattern s) (split_text s)) []
+to_come s = if split_has_more s then pieces (split_pattern s) (split_text s) else []
 
 -- the number that decimal digits write, where those before them write n
 abbrev pub number_after : ℕ → List ℕ → ℕ

@@ -1,5 +1,5 @@
 -- The different numbers of a list.
-use Rattle.std.proofs.Common.{◌≡◌, ℕ, ◌+◌, ◌*◌, ◌≤◌, Bool, true, false, cond, ◌||◌, eqb, List, [], ◌∷◌, ◌++◌, length, sym, refl, ap, ◌∙◌, inl, inr, arith}
+use Rattle.std.proofs.Common.{◌≡◌, ℕ, ◌+◌, ◌*◌, ◌≤◌, Bool, true, false, cond, ◌||◌, eqb, List, [], ◌∷◌, ◌++◌, length, sym, refl, ap, ◌∙◌, inl, inr, arith, if◌then◌else◌}
 use Rattle.std.proofs.lemmas.List.{append-nil}
 use Rattle.std.proofs.lemmas.Bool.{cases_Bool, cases_eq, eqb-true, or_left, eq-eqb, ne_eqb}
 use Rattle.lots.specs.declared.Lot.{Lot}
@@ -26,10 +26,10 @@ has_known t u ts h = elim (cases_Bool (eqb t u)) [
 ]
 
 abbrev one : Bool → ℕ
-one b = cond b 0 1
+one b = if b then 0 else 1
 
 -- one more number, put in anywhere
-pub distinct_between : (ts us : List ℕ) (u : ℕ) → distinct (ts ++ (u ∷ us)) ≡ distinct (ts ++ us) + cond (has u (ts ++ us)) 0 1
+pub distinct_between : (ts us : List ℕ) (u : ℕ) → distinct (ts ++ (u ∷ us)) ≡ distinct (ts ++ us) + (if has u (ts ++ us) then 0 else 1)
 distinct_between [] us u = omega arith
 distinct_between (t ∷ ts) us u =
     let ih = distinct_between ts us u in

@@ -7,9 +7,9 @@ use Rattle.std.proofs.lemmas.Bool.{false≢true, cases_Bool, or_cases, or_left, 
 use Rattle.std.proofs.lemmas.Bool.Decides.{nat_tests}
 use Rattle.std.specs.Ordering.{nat_cmp}
 use Rattle.elastic.specs.Profile.{has}
-use Rattle.elastic.specs.Rows.{Stands, Put, Seated}
-use Rattle.elastic.specs.declared.row.Place.{Place}
-use Rattle.elastic.specs.declared.row.Place.TheVariants.{Placed, Present, Full}
+use Rattle.row.specs.Rows.{Stands, Put, Seated}
+use Rattle.row.specs.declared.row.Place.{Place}
+use Rattle.row.specs.declared.row.Place.TheVariants.{Placed, Present, Full}
 use Rattle.elastic.proofs.Counts.{has_between, has_known}
 
 equal_rank : (x y : ℕ) → x ≡ y → nat_cmp x y ≡ Equal

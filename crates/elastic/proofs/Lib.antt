@@ -1,5 +1,3 @@
-pub mod Inserts
-pub mod Rows
 pub mod Counts
 pub mod Keys
 pub mod Points

@@ -1,5 +1,5 @@
 -- The profile counted from minute 0, and not from the earliest est.
-use Rattle.std.proofs.Common.{◌≡◌, ℕ, zero, suc, ◌+◌, ◌-◌, ◌<◌, ◌≤◌, min, Bool, true, false, cond, leb, ltb, List, [], ◌∷◌, ◌++◌, sym, refl, ap, ◌∙◌, inl, inr, add-suc, arith}
+use Rattle.std.proofs.Common.{◌≡◌, ℕ, zero, suc, ◌+◌, ◌-◌, ◌<◌, ◌≤◌, min, Bool, true, false, if◌then◌else◌, leb, ltb, List, [], ◌∷◌, ◌++◌, sym, refl, ap, ◌∙◌, inl, inr, add-suc, arith}
 use Rattle.std.proofs.ByRecursion.{All-append}
 use Rattle.std.proofs.lemmas.List.{append-nil}
 use Rattle.std.proofs.lemmas.Bool.{cases_lt, leb-true, leb-false}
@@ -18,7 +18,7 @@ rest U Ω (suc t) = (rest U Ω t + creq Ω t) - min (available Ω t) (U t)
 
 -- those that can where c of C are kept until m
 abbrev pub usable : ℕ → ℕ → ℕ → ℕ → ℕ
-usable C c m t = cond (ltb t m) (C - c) C
+usable C c m t = if ltb t m then C - c else C
 
 pub usable_before : (C c m t : ℕ) → t < m → usable C c m t ≡ C - c
 usable_before C c m t h = grind (arith, nat_tests)
@@ -26,13 +26,13 @@ usable_before C c m t h = grind (arith, nat_tests)
 pub usable_after : (C c m t : ℕ) → m ≤ t → usable C c m t ≡ C
 usable_after C c m t h = grind (arith, nat_tests)
 
-spans_out : (a b c t : ℕ) → t < a → cond (spans a b t) c 0 ≡ 0
+spans_out : (a b c t : ℕ) → t < a → (if spans a b t then c else 0) ≡ 0
 spans_out a b c t h = grind (arith, nat_tests)
 
-spans_past : (a b c t : ℕ) → b ≤ t → cond (spans a b t) c 0 ≡ 0
+spans_past : (a b c t : ℕ) → b ≤ t → (if spans a b t then c else 0) ≡ 0
 spans_past a b c t h = grind (arith, nat_tests)
 
-spans_in : (a b c t : ℕ) → a ≤ t → t < b → cond (spans a b t) c 0 ≡ c
+spans_in : (a b c t : ℕ) → a ≤ t → t < b → (if spans a b t then c else 0) ≡ c
 spans_in a b c t h k = grind (arith, nat_tests)
 
 creq_early : (Ω : List Lot) (t : ℕ) → t < earliest Ω → creq Ω t ≡ 0
@@ -89,15 +89,15 @@ module _ (C c m : ℕ) (fits : c ≤ C) (Ω : List Lot) where
   ]
 
   module _ (later : earliest Ω < m) where
-    open_run : (t : ℕ) → available (Ω ++ (run c m Ω ∷ [])) t ≡ available Ω t + cond (spans (earliest Ω) m t) c 0
-    open_run t = available_between t Ω [] (run c m Ω) ∙ ap (λ xs. available xs t + cond (spans (earliest Ω) m t) c 0) (append-nil Ω)
+    open_run : (t : ℕ) → available (Ω ++ (run c m Ω ∷ [])) t ≡ available Ω t + (if spans (earliest Ω) m t then c else 0)
+    open_run t = available_between t Ω [] (run c m Ω) ∙ ap (λ xs. available xs t + (if spans (earliest Ω) m t then c else 0)) (append-nil Ω)
 
-    due_run : (t : ℕ) → creq (Ω ++ (run c m Ω ∷ [])) t ≡ creq Ω t + cond (spans (earliest Ω) m t) c 0
+    due_run : (t : ℕ) → creq (Ω ++ (run c m Ω ∷ [])) t ≡ creq Ω t + (if spans (earliest Ω) m t then c else 0)
     due_run t =
         let end : earliest Ω + (m - earliest Ω) ≡ m = omega arith in
         creq_between t Ω [] (run c m Ω)
-        ∙ ap (λ xs. creq xs t + cond (spans (earliest Ω) (ect (run c m Ω)) t) c 0) (append-nil Ω)
-        ∙ ap (λ n. creq Ω t + cond (spans (earliest Ω) n t) c 0) end
+        ∙ ap (λ xs. creq xs t + (if spans (earliest Ω) (ect (run c m Ω)) t then c else 0)) (append-nil Ω)
+        ∙ ap (λ n. creq Ω t + (if spans (earliest Ω) n t then c else 0)) end
 
     some_kept : (t : ℕ) → rest (λ u. C) (Ω ++ (run c m Ω ∷ [])) t ≡ rest (usable C c m) Ω t
     some_kept zero = refl
@@ -118,7 +118,7 @@ module _ (C c m : ℕ) (fits : c ≤ C) (Ω : List Lot) where
       ]
     ]
 
-  kept_by : Fits Ω → (b : Bool) → leb m (earliest Ω) ≡ b → overflow C (Ω ++ cond b [] (run c m Ω ∷ [])) ≡ rest (usable C c m) Ω (latest Ω)
+  kept_by : Fits Ω → (b : Bool) → leb m (earliest Ω) ≡ b → overflow C (Ω ++ (if b then [] else run c m Ω ∷ [])) ≡ rest (usable C c m) Ω (latest Ω)
   kept_by h true e =
       ap (overflow C) (append-nil Ω) ∙ overflow_rest C Ω h ∙ none_kept (leb-true m (earliest Ω) e) (latest Ω)
   kept_by h false e =

@@ -1,5 +1,5 @@
 -- Lots of a table that are marked.
-use Rattle.std.proofs.Common.{◌≡◌, ℕ, zero, suc, ◌+◌, ◌<◌, ◌≤◌, Bool, true, false, cond, ◌&&◌, ◌||◌, eqb, ltb, List, [], ◌∷◌, ◌++◌, length, replicate, get_or, set, sym, refl, ap, ◌∙◌, ap₂, inl, inr, arith}
+use Rattle.std.proofs.Common.{◌≡◌, ℕ, zero, suc, ◌+◌, ◌<◌, ◌≤◌, Bool, true, false, if◌then◌else◌, ◌&&◌, ◌||◌, eqb, ltb, List, [], ◌∷◌, ◌++◌, length, replicate, get_or, set, sym, refl, ap, ◌∙◌, ap₂, inl, inr, arith}
 use Rattle.std.specs.List.{AllByRecursion}
 use Rattle.std.proofs.Math.Bool.{or-false}
 use Rattle.std.proofs.lemmas.Bool.{cases_eq, cases_lt, cond_both, and_from, and_right, or_left, or_right, eq-eqb, ne_eqb, lt-ltb, le-ltb, le-leb}
@@ -27,7 +27,7 @@ those_all [] [] h = refl
 those_all [] (x ∷ xs) h = absurd (let z : false ≡ true = h 0 (omega arith) in cc)
 those_all (b ∷ bs) [] h = refl
 those_all (b ∷ bs) (x ∷ xs) h =
-    ap₂ (λ c ys. cond c (x ∷ ys) ys) (h 0 (omega arith)) (those_all bs xs (λ k l. h (suc k) (omega arith)))
+    ap₂ (λ c ys. if c then x ∷ ys else ys) (h 0 (omega arith)) (those_all bs xs (λ k l. h (suc k) (omega arith)))
 
 module _ (bs : List Bool) (n l : ℕ) where
   -- the mark of n, which was not set
@@ -61,7 +61,7 @@ marked_more bs bs' n l h is before k low = is k ∙ elim (cases_eq k n) [
   | inr ne ↦ or_left (get_or bs k false) (eqb k n && ltb n l) (before k (omega arith))
 ]
 
-pub cond_append : (b : Bool) (x : Lot) (xs ys : List Lot) → cond b (x ∷ (xs ++ ys)) (xs ++ ys) ≡ cond b (x ∷ xs) xs ++ ys
+pub cond_append : (b : Bool) (x : Lot) (xs ys : List Lot) → (if b then x ∷ (xs ++ ys) else xs ++ ys) ≡ (if b then x ∷ xs else xs) ++ ys
 cond_append true x xs ys = refl
 cond_append false x xs ys = refl
 
@@ -78,16 +78,16 @@ those_more (b ∷ bs) [] n h k e = absurd (omega arith)
 those_more (b ∷ bs) (x ∷ xs) zero h k e = record {
   before = [];
   after = those bs xs;
-  without = ap (λ c. cond c (x ∷ those bs xs) (those bs xs)) e;
+  without = ap (λ c. if c then x ∷ those bs xs else those bs xs) e;
   with_it = refl;
 }
 those_more (b ∷ bs) (x ∷ xs) (suc n) h k e =
     let r = those_more bs xs n (omega arith) (omega arith) e in
     record {
-      before = cond b (x ∷ r.before) r.before;
+      before = if b then x ∷ r.before else r.before;
       after = r.after;
-      without = ap (λ ys. cond b (x ∷ ys) ys) r.without ∙ cond_append b x r.before r.after;
-      with_it = ap (λ ys. cond b (x ∷ ys) ys) r.with_it ∙ cond_append b x r.before (lot_at xs n ∷ r.after);
+      without = ap (λ ys. if b then x ∷ ys else ys) r.without ∙ cond_append b x r.before r.after;
+      with_it = ap (λ ys. if b then x ∷ ys else ys) r.with_it ∙ cond_append b x r.before (lot_at xs n ∷ r.after);
     }
 
 -- some of a lawful table are one, under the greatest capacity
@@ -101,7 +101,7 @@ those_few (b ∷ bs) (x ∷ xs) =
 pub some_missing : (bs : List Bool) (T : List Lot) (n : ℕ) → n < length T → get_or bs n false ≡ false → length (those bs T) < length T
 some_missing [] T n h e = omega (arith, h)
 some_missing (b ∷ bs) [] n h e = absurd (omega arith)
-some_missing (b ∷ bs) (x ∷ xs) zero h e = omega (arith, ap (λ c. length (cond c (x ∷ those bs xs) (those bs xs))) e, those_few bs xs)
+some_missing (b ∷ bs) (x ∷ xs) zero h e = omega (arith, ap (λ c. length (if c then x ∷ those bs xs else those bs xs)) e, those_few bs xs)
 some_missing (b ∷ bs) (x ∷ xs) (suc n) h e =
     let rest = some_missing bs xs n (omega arith) e in
     cond_both b (x ∷ those bs xs) (those bs xs) (λ ys. length ys < suc (length xs)) (λ e. omega (arith, rest)) (λ e. omega (arith, rest))
@@ -124,7 +124,7 @@ those_lawful bs C T given =
 
 pub nothing_kept : (Ω : List Lot) → Ω ++ kept 0 0 Ω ≡ Ω
 nothing_kept Ω =
-    ap (λ b. Ω ++ cond b [] (run 0 0 Ω ∷ [])) (le-leb 0 (earliest Ω) (omega arith)) ∙ append-nil Ω
+    ap (λ b. Ω ++ (if b then [] else run 0 0 Ω ∷ [])) (le-leb 0 (earliest Ω) (omega arith)) ∙ append-nil Ω
 
 pub trays_fit : (C : ℕ) (T : List Lot) (n : ℕ) → AllByRecursion (LawfulLot C) T → (lot_at T n).c ≤ C
 trays_fit C [] n h = omega arith

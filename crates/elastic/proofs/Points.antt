@@ -1,5 +1,5 @@
 -- Entering a change into a table of points.
-use Rattle.std.proofs.Common.{◌≡◌, ℕ, zero, suc, ◌+◌, ◌<◌, ◌≤◌, Bool, true, false, cond, leb, List, [], ◌∷◌, ◌++◌, length, get_or, take, drop, set, ℤ, pos, ◌+ℤ◌, sym, refl, ap, ◌∙◌, subst, ap₂, inl, inr, arith}
+use Rattle.std.proofs.Common.{◌≡◌, ℕ, zero, suc, ◌+◌, ◌<◌, ◌≤◌, Bool, true, false, cond, leb, List, [], ◌∷◌, ◌++◌, length, get_or, take, drop, set, ℤ, pos, ◌+ℤ◌, sym, refl, ap, ◌∙◌, subst, ap₂, inl, inr, arith, if◌then◌else◌}
 use Rattle.std.proofs.Math.Seq.{take-set-lt}
 use Rattle.std.specs.List.{insert, AllByRecursion}
 use Rattle.std.proofs.lemmas.Int.{ints}
@@ -11,23 +11,23 @@ use Rattle.std.proofs.lemmas.Bool.{cases_eq}
 use Rattle.std.specs.Ordering.{nat_cmp}
 use Rattle.elastic.specs.Points.{upto, point_at, altered, Small, minutes_of, Rising, Entered}
 use Rattle.elastic.specs.Profile.{has}
-use Rattle.elastic.specs.Rows.{Stands, Put, Seated}
+use Rattle.row.specs.Rows.{Stands, Put, Seated}
 use Rattle.elastic.specs.declared.profile.Point.{Point}
-use Rattle.elastic.specs.declared.row.Place.TheVariants.{Placed, Present}
+use Rattle.row.specs.declared.row.Place.TheVariants.{Placed, Present}
 use Rattle.elastic.proofs.Counts.{has_known}
 use Rattle.elastic.proofs.Keys.{keys_inserted, key_stands, stands_known, lacks_key}
-use Rattle.elastic.proofs.Rows.{nowhere}
+use Rattle.row.proofs.Rows.{nowhere}
 
 abbrev minute : Point → ℕ
 minute p = p.minute
 
-cond_sum : (b : Bool) (x y z : ℤ) → x ≡ y +ℤ z → cond b x (pos 0) ≡ cond b y (pos 0) +ℤ cond b z (pos 0)
+cond_sum : (b : Bool) (x y z : ℤ) → x ≡ y +ℤ z → (if b then x else pos 0) ≡ (if b then y else pos 0) +ℤ (if b then z else pos 0)
 cond_sum true x y z e = e
 cond_sum false x y z e = refl
 
 module _ (f : Point → ℤ) (t : ℕ) where
   abbrev part : Point → ℤ
-  part p = cond (leb p.minute t) (f p) (pos 0)
+  part p = if leb p.minute t then f p else pos 0
 
   upto_between : (ps qs : List Point) (e : Point) → upto f (ps ++ (e ∷ qs)) t ≡ upto f (ps ++ qs) t +ℤ part e
   upto_between [] qs e = omega (arith, ints)
@@ -37,8 +37,8 @@ module _ (f : Point → ℤ) (t : ℕ) where
   upto_set : (ps : List Point) (i : ℕ) (q e : Point) → i < length ps → q.minute ≡ (point_at ps i).minute → e.minute ≡ (point_at ps i).minute → f q ≡ f (point_at ps i) +ℤ f e → upto f (set ps i q) t ≡ upto f ps t +ℤ part e
   upto_set [] i q e h m n g = absurd (omega arith)
   upto_set (p ∷ ps) zero q e h m n g =
-      let there = ap (λ u. cond (leb u t) (f q) (pos 0)) m in
-      let added = ap (λ u. cond (leb u t) (f e) (pos 0)) n in
+      let there = ap (λ u. if leb u t then f q else pos 0) m in
+      let added = ap (λ u. if leb u t then f e else pos 0) n in
       let split = cond_sum (leb p.minute t) (f q) (f p) (f e) g in
       omega (arith, ints, there, added, split)
   upto_set (p ∷ ps) (suc i) q e h m n g = let ih = upto_set ps i q e (omega arith) m n g in omega (arith, ints)
@@ -83,7 +83,7 @@ module _ (ps : List Point) (e : Point) (i : ℕ) where
     pub entered_placed : Entered ps e (insert ps i e)
     entered_placed = record {
       rising = up;
-      count = length-insert ps i e low ∙ ap (λ b. length ps + cond b 0 1) (sym (lacks_key minute ps e.minute lacks));
+      count = length-insert ps i e low ∙ ap (λ b. length ps + (if b then 0 else 1)) (sym (lacks_key minute ps e.minute lacks));
       at = keys_inserted minute ps e i;
       available = sums (λ p. p.available);
       required = sums (λ p. p.required);

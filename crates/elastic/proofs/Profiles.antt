@@ -1,5 +1,5 @@
 -- A lot added to a profile.
-use Rattle.std.proofs.Common.{◌≡◌, ℕ, ◌+◌, ◌*◌, ◌<◌, ◌≤◌, Bool, true, false, cond, ◌||◌, eqb, leb, List, [], ◌∷◌, ◌++◌, length, pos, ◌+ℤ◌, neg_ℤ, sym, refl, ap, ◌∙◌, subst, ap₂, arith}
+use Rattle.std.proofs.Common.{◌≡◌, ℕ, ◌+◌, ◌*◌, ◌<◌, ◌≤◌, Bool, true, false, if◌then◌else◌, ◌||◌, eqb, leb, List, [], ◌∷◌, ◌++◌, length, pos, ◌+ℤ◌, neg_ℤ, sym, refl, ap, ◌∙◌, subst, ap₂, arith}
 use Rattle.std.specs.List.{AllByRecursion}
 use Rattle.std.proofs.lemmas.List.{append_assoc}
 use Rattle.std.proofs.lemmas.Int.{ints}
@@ -23,7 +23,7 @@ record Gathers (ps : List Point) (ts : List ℕ) : Type 0 where
 module _ (ps qs : List Point) (ts us : List ℕ) (e : Point) where
   gathers_between : Gathers ps (ts ++ us) → Entered ps e qs → Gathers qs (ts ++ (e.minute ∷ us))
   gathers_between g n = record {
-    count = n.count ∙ ap₂ (λ m b. m + cond b 0 1) g.count (g.at e.minute) ∙ sym (distinct_between ts us e.minute);
+    count = n.count ∙ ap₂ (λ m b. m + (if b then 0 else 1)) g.count (g.at e.minute) ∙ sym (distinct_between ts us e.minute);
     at = λ t. n.at t ∙ ap (λ b. eqb t e.minute || b) (g.at t) ∙ sym (has_between t e.minute ts us);
   }
 
@@ -39,19 +39,19 @@ length_between [] Ψ x = omega arith
 length_between (y ∷ ys) Ψ x = omega (arith, length_between ys Ψ x)
 
 module _ (t : ℕ) where
-  pub available_between : (Ω Ψ : List Lot) (x : Lot) → available (Ω ++ (x ∷ Ψ)) t ≡ available (Ω ++ Ψ) t + cond (spans x.est x.lct t) x.c 0
+  pub available_between : (Ω Ψ : List Lot) (x : Lot) → available (Ω ++ (x ∷ Ψ)) t ≡ available (Ω ++ Ψ) t + (if spans x.est x.lct t then x.c else 0)
   available_between [] Ψ x = omega arith
   available_between (y ∷ ys) Ψ x = omega (arith, available_between ys Ψ x)
 
-  pub creq_between : (Ω Ψ : List Lot) (x : Lot) → creq (Ω ++ (x ∷ Ψ)) t ≡ creq (Ω ++ Ψ) t + cond (spans x.est (ect x) t) x.c 0
+  pub creq_between : (Ω Ψ : List Lot) (x : Lot) → creq (Ω ++ (x ∷ Ψ)) t ≡ creq (Ω ++ Ψ) t + (if spans x.est (ect x) t then x.c else 0)
   creq_between [] Ψ x = omega arith
   creq_between (y ∷ ys) Ψ x = omega (arith, creq_between ys Ψ x)
 
   -- c from a on and −c from b on is c in the span from a to b
-  step_up_down : (a b c : ℕ) → a ≤ b → cond (leb a t) (pos c) (pos 0) +ℤ cond (leb b t) (neg_ℤ (pos c)) (pos 0) ≡ pos (cond (spans a b t) c 0)
+  step_up_down : (a b c : ℕ) → a ≤ b → (if leb a t then pos c else pos 0) +ℤ (if leb b t then neg_ℤ (pos c) else pos 0) ≡ pos (if spans a b t then c else 0)
   step_up_down a b c h = grind (arith, ints, nat_tests)
 
-no_change : (b : Bool) → cond b (pos 0) (pos 0) ≡ pos 0
+no_change : (b : Bool) → (if b then pos 0 else pos 0) ≡ pos 0
 no_change true = refl
 no_change false = refl
 

@@ -1,5 +1,5 @@
 -- Lots that have a schedule leave no overflow.
-use Rattle.std.proofs.Common.{◌≡◌, ℕ, zero, suc, ◌+◌, ◌-◌, ◌*◌, ◌≤◌, min, Bool, true, false, cond, List, [], ◌∷◌, refl, ap, ◌∙◌, ap₂, mul-le-mul_left, mul-zero, mul-one, mul-add, arith}
+use Rattle.std.proofs.Common.{◌≡◌, ℕ, zero, suc, ◌+◌, ◌-◌, ◌*◌, ◌≤◌, min, Bool, true, false, if◌then◌else◌, List, [], ◌∷◌, refl, ap, ◌∙◌, ap₂, mul-le-mul_left, mul-zero, mul-one, mul-add, arith}
 use Rattle.std.proofs.lemmas.Bool.Decides.{nat_tests}
 use Rattle.lots.specs.Schedules.{spans, load, Placed, Schedule}
 use Rattle.lots.specs.declared.Lot.{Lot}
@@ -11,14 +11,14 @@ use Rattle.elastic.proofs.Minutes.{rest, overflow_rest}
 abbrev done : ℕ → ℕ → ℕ → ℕ
 done a p t = min p (t - a)
 
-done_suc : (a p t : ℕ) → done a p (suc t) ≡ done a p t + cond (spans a (a + p) t) 1 0
+done_suc : (a p t : ℕ) → done a p (suc t) ≡ done a p t + (if spans a (a + p) t then 1 else 0)
 done_suc a p t = grind (arith, nat_tests)
 
-times_cond : (c n : ℕ) (b : Bool) → c * (n + cond b 1 0) ≡ c * n + cond b c 0
+times_cond : (c n : ℕ) (b : Bool) → c * (n + (if b then 1 else 0)) ≡ c * n + (if b then c else 0)
 times_cond c n true = omega (arith, mul-add c n 1, mul-one c)
 times_cond c n false = omega (arith, mul-add c n 0, mul-zero c)
 
-spans_inside : (a b d e t c : ℕ) → d ≤ a → b ≤ e → cond (spans a b t) c 0 ≤ cond (spans d e t) c 0
+spans_inside : (a b d e t c : ℕ) → d ≤ a → b ≤ e → (if spans a b t then c else 0) ≤ (if spans d e t then c else 0)
 spans_inside a b d e t c h k = grind (arith, nat_tests)
 
 -- the work that is done before t

@@ -1,5 +1,5 @@
 -- The walk along the points of a profile.
-use Rattle.std.proofs.Common.{◌≡◌, ℕ, zero, suc, ◌+◌, ◌-◌, ◌*◌, ◌<◌, ◌≤◌, min, max, Bool, true, false, cond, ◌||◌, eqb, List, [], ◌∷◌, ◌++◌, length, drop, ℤ, pos, ◌+ℤ◌, Less, sym, refl, ap, ap₂, ◌∙◌, subst, inl, inr, add-zero, add-suc, suc-mul, mul-le-mul_left, zero-mul, arith}
+use Rattle.std.proofs.Common.{◌≡◌, ℕ, zero, suc, ◌+◌, ◌-◌, ◌*◌, ◌<◌, ◌≤◌, min, max, Bool, true, false, if◌then◌else◌, ◌||◌, eqb, List, [], ◌∷◌, ◌++◌, length, drop, ℤ, pos, ◌+ℤ◌, Less, sym, refl, ap, ap₂, ◌∙◌, subst, inl, inr, add-zero, add-suc, suc-mul, mul-le-mul_left, zero-mul, arith}
 use Rattle.std.specs.List.{AllByRecursion}
 use Rattle.std.proofs.lemmas.List.{drop_more, drop_all}
 use Rattle.std.proofs.lemmas.Int.{ints}
@@ -48,7 +48,7 @@ pub record Walks (U : ℕ → ℕ) (Ω : List Lot) (m a r l : ℕ) (ps : List Po
   pub available_few : a ≤ max_capacity * max_lots
   pub required_few : r ≤ max_capacity * max_lots
 
-cond_most : (b : Bool) (n : ℕ) → cond b n 0 ≤ n
+cond_most : (b : Bool) (n : ℕ) → (if b then n else 0) ≤ n
 cond_most true n = omega arith
 cond_most false n = omega arith
 
@@ -69,7 +69,7 @@ module _ (t : ℕ) where
   upto_ahead : (f : Point → ℤ) (ps : List Point) → AllByRecursion (λ p. t < p.minute) ps → upto f ps t ≡ pos 0
   upto_ahead f [] h = refl
   upto_ahead f (p ∷ ps) h =
-      let here = ap (λ b. cond b (f p) (pos 0)) (lt-leb p.minute t h.0) in
+      let here = ap (λ b. if b then f p else pos 0) (lt-leb p.minute t h.0) in
       omega (arith, ints, here, upto_ahead f ps h.1)
 
 pub rank_less : (x y : ℕ) → nat_cmp x y ≡ Less → x < y
@@ -88,7 +88,7 @@ module _ (f : Point → ℤ) (F : ℕ → ℕ) (m n : ℕ) (p : Point) (ps : Lis
 
   -- from p on, it counts
   counted : (t : ℕ) → p.minute ≤ t → upto f (p ∷ ps) t ≡ f p +ℤ upto f ps t
-  counted t h = ap (λ b. cond b (f p) (pos 0) +ℤ upto f ps t) (le-leb p.minute t h)
+  counted t h = ap (λ b. (if b then f p else pos 0) +ℤ upto f ps t) (le-leb p.minute t h)
 
   level_before : (t : ℕ) → m ≤ t → t < p.minute → F t ≡ n
   level_before t h k = omega (arith, ints, level t h, upto_ahead t f (p ∷ ps) (k, All-weaker _ _ (λ q g. omega arith) ps after))

@@ -1,5 +1,5 @@
 -- Points: the minutes at which a profile changes, and by how much.
-use Rattle.std.specs.Prelude.{◌≡◌, ℕ, ◌+◌, ◌*◌, cond, ◌||◌, List, [], ◌∷◌, map, length, ℤ, pos, ◌+ℤ◌, neg_ℤ, ◌≤ℤ◌, ◌==◌, nat_le, slice_index_or}
+use Rattle.std.specs.Prelude.{◌≡◌, ℕ, ◌+◌, ◌*◌, if◌then◌else◌, ◌||◌, List, [], ◌∷◌, map, length, ℤ, pos, ◌+ℤ◌, neg_ℤ, ◌≤ℤ◌, ◌==◌, nat_le, slice_index_or}
 use Rattle.std.specs.Cmp.{nat_cmp_total}
 use Rattle.std.specs.List.{AllByRecursion}
 use Rattle.lots.specs.Limits.{max_capacity, max_lots}
@@ -7,7 +7,7 @@ use Rattle.lots.specs.Tables.{ect}
 use Rattle.lots.specs.declared.Lot.{Lot}
 use Rattle.elastic.specs.Profile as profile
 use Rattle.elastic.specs.Profile.{creq, minutes, points, points_of_a_lot, has}
-use Rattle.elastic.specs.Rows.{Ascending}
+use Rattle.row.specs.Rows.{Ascending}
 use Rattle.elastic.specs.declared.profile.Point.{Point}
 
 abbrev pub max_points : ℕ
@@ -22,7 +22,7 @@ Rising ps = Ascending nat_cmp_total (λ p. p.minute) ps
 -- the sum of one of the two changes over the points up to the minute t
 abbrev pub upto : (Point → ℤ) → List Point → ℕ → ℤ
 upto change [] t = pos 0
-upto change (p ∷ ps) t = cond (nat_le p.minute t) (change p) (pos 0) +ℤ upto change ps t
+upto change (p ∷ ps) t = (if nat_le p.minute t then change p else pos 0) +ℤ upto change ps t
 
 abbrev pub available_upto : List Point → ℕ → ℤ
 available_upto = upto (λ p. p.available)
@@ -52,10 +52,10 @@ altered p e = record { minute = p.minute; available = p.available +ℤ e.availab
 -- qs are the points ps with the changes of e entered at its minute
 pub record Entered (ps : List Point) (e : Point) (qs : List Point) : Type 0 where
   pub rising : Rising qs
-  pub count : length qs ≡ length ps + cond (has e.minute (minutes_of ps)) 0 1
+  pub count : length qs ≡ length ps + (if has e.minute (minutes_of ps) then 0 else 1)
   pub at : (t : ℕ) → has t (minutes_of qs) ≡ (t == e.minute || has t (minutes_of ps))
-  pub available : (t : ℕ) → available_upto qs t ≡ available_upto ps t +ℤ cond (nat_le e.minute t) e.available (pos 0)
-  pub required : (t : ℕ) → required_upto qs t ≡ required_upto ps t +ℤ cond (nat_le e.minute t) e.required (pos 0)
+  pub available : (t : ℕ) → available_upto qs t ≡ available_upto ps t +ℤ (if nat_le e.minute t then e.available else pos 0)
+  pub required : (t : ℕ) → required_upto qs t ≡ required_upto ps t +ℤ (if nat_le e.minute t then e.required else pos 0)
   pub small : (a b : ℕ) → AllByRecursion (Small a) ps → Small b e → AllByRecursion (Small (a + b)) qs
 
 -- the changes that a lot brings at its est, ect and lct

@@ -1,5 +1,5 @@
 -- The elastic profile of a list of lots Ω under the capacity C.
-use Rattle.std.specs.Prelude.{ℕ, zero, suc, ◌+◌, ◌-◌, min, max, Bool, false, cond, ◌||◌, List, [], ◌∷◌, ◌==◌}
+use Rattle.std.specs.Prelude.{ℕ, zero, suc, ◌+◌, ◌-◌, min, max, Bool, false, if◌then◌else◌, ◌||◌, List, [], ◌∷◌, ◌==◌}
 use Rattle.lots.specs.Schedules.{spans}
 use Rattle.lots.specs.Tables.{ect}
 use Rattle.lots.specs.declared.Lot.{Lot}
@@ -18,7 +18,7 @@ latest (x ∷ xs) = max x.lct (latest xs)
 -- the trays of the lots whose window holds the minute t: est ≤ t < lct
 abbrev pub available : List Lot → ℕ → ℕ
 available [] t = 0
-available (x ∷ xs) t = cond (spans x.est x.lct t) x.c 0 + available xs t
+available (x ∷ xs) t = (if spans x.est x.lct t then x.c else 0) + available xs t
 
 -- the trays that can be in use at t
 abbrev pub cmax : ℕ → List Lot → ℕ → ℕ
@@ -27,7 +27,7 @@ cmax C Ω t = min (available Ω t) C
 -- the trays in use at t if each lot starts at its est: est ≤ t < ect
 abbrev pub creq : List Lot → ℕ → ℕ
 creq [] t = 0
-creq (x ∷ xs) t = cond (spans x.est (ect x) t) x.c 0 + creq xs t
+creq (x ∷ xs) t = (if spans x.est (ect x) t then x.c else 0) + creq xs t
 
 -- the trays in use at t, where `before` is ov in the minute before t
 abbrev pub cons : ℕ → List Lot → ℕ → ℕ → ℕ
@@ -54,7 +54,7 @@ has t (u ∷ us) = t == u || has t us
 -- how many different numbers a list has
 abbrev pub distinct : List ℕ → ℕ
 distinct [] = 0
-distinct (t ∷ ts) = cond (has t ts) 0 1 + distinct ts
+distinct (t ∷ ts) = (if has t ts then 0 else 1) + distinct ts
 
 -- how many points a lot can bring: its est, its ect and its lct
 abbrev pub points_of_a_lot : ℕ

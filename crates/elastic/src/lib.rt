@@ -6,13 +6,9 @@ ghost use Rattle.elastic.specs.Overflow.{Answered, FewPoints, NoneIfSchedulable}
 
 use lots::{Lot, Refusal, Table};
 
-mod array_row;
 mod profile;
-mod row;
 
-pub use array_row::ArrayRow;
 pub use profile::Profile;
-pub use row::{Keyed, Place, Row};
 
 // The work that is left over at the latest lct of a table, and the number of points of its profile: a pair, which callers take apart.
 pub fn overflow_of(table: Table<'_>) -> (u32, usize)

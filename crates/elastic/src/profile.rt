@@ -9,9 +9,8 @@ ghost use Rattle.elastic.specs.Profile.{overflow as left_over, points as points_
 ghost use Rattle.elastic.specs.Parts.{those, kept};
 ghost use Rattle.std.proofs.Props.{props};
 
-use crate::array_row::ArrayRow;
-use crate::row::{Keyed, Place};
 use lots::{Lot, MAX_LOTS, Table};
+use row::{ArrayRow, Keyed, Place};
 
 // At most the est, the ect and the lct.
 const POINTS_OF_A_LOT: usize = 3;

@@ -1,5 +1,5 @@
 -- Schedules of a table: a start for each lot.
-use Rattle.std.specs.Prelude.{◌≡◌, ℕ, ◌+◌, ◌≤◌, max, Bool, cond, ◌&&◌, List, [], ◌∷◌, nat_le, nat_lt}
+use Rattle.std.specs.Prelude.{◌≡◌, ℕ, ◌+◌, ◌≤◌, max, Bool, if◌then◌else◌, ◌&&◌, List, [], ◌∷◌, nat_le, nat_lt}
 use Rattle.lots.specs.declared.Lot.{Lot}
 
 -- whether the minute t lies in the half-open span from a to b: a ≤ t < b
@@ -10,7 +10,7 @@ spans a b t = nat_le a t && nat_lt t b
 abbrev pub load : ℕ → List Lot → List ℕ → ℕ
 load t [] ss = 0
 load t (x ∷ xs) [] = 0
-load t (x ∷ xs) (s ∷ ss) = cond (spans s (s + x.p) t) x.c 0 + load t xs ss
+load t (x ∷ xs) (s ∷ ss) = (if spans s (s + x.p) t then x.c else 0) + load t xs ss
 
 -- each lot has one start, and runs inside its window
 abbrev pub Placed : List Lot → List ℕ → Type 0

@@ -1,5 +1,5 @@
 -- Bounds that every schedule keeps may be raised to.
-use Rattle.std.proofs.Common.{◌≡◌, ◌≢◌, ℕ, suc, ◌+◌, ◌<◌, ◌≤◌, Bool, true, false, cond, ◌&&◌, leb, List, [], ◌∷◌, length, get_or, drop, set, sym, refl, ap, ap₂, ◌∙◌, subst, add-zero, zero-add, add-one, get_or-set_same, get_or-set_other, below_more, arith}
+use Rattle.std.proofs.Common.{◌≡◌, ◌≢◌, ℕ, suc, ◌+◌, ◌<◌, ◌≤◌, Bool, true, false, if◌then◌else◌, ◌&&◌, leb, List, [], ◌∷◌, length, get_or, drop, set, sym, refl, ap, ap₂, ◌∙◌, subst, add-zero, zero-add, add-one, get_or-set_same, get_or-set_other, below_more, arith}
 use Rattle.std.specs.List.{AllByRecursion}
 use Rattle.std.proofs.lemmas.List.{at_drop_more}
 use Rattle.std.proofs.lemmas.Bool.{leb-true, and_parts, le-leb, and_from, true≢false}
@@ -59,11 +59,11 @@ module _ (bound : ℕ → ℕ) where
     abbrev U : List Lot
     U = later_all bound 0 T
 
-    given : (P : List Lot → Type 0) → (all_fit U ≡ true → P U) → (b : Bool) → all_fit U ≡ b → Gives (cond b (to U) dead) P
+    given : (P : List Lot → Type 0) → (all_fit U ≡ true → P U) → (b : Bool) → all_fit U ≡ b → Gives (if b then to U else dead) P
     given P h true e = h e
     given P h false e = tt
 
-    died : (P : Type 0) → (all_fit U ≡ false → P) → (b : Bool) → all_fit U ≡ b → Dies (cond b (to U) dead) P
+    died : (P : Type 0) → (all_fit U ≡ false → P) → (b : Bool) → all_fit U ≡ b → Dies (if b then to U else dead) P
     died P h true e = tt
     died P h false e = h e
 
@@ -147,7 +147,7 @@ answers_from_changed {bound} {T} {U} v r done same fit changed = answered v chan
     whole = each_later bound 0 T U same (λ j h. rw zero-add (r.raised j (omega arith)))
 
     gives : raise bound T ≡ to U
-    gives = ap (λ b. cond b (to (later_all bound 0 T)) dead) fit ∙ ap to (sym whole)
+    gives = ap (λ b. if b then to (later_all bound 0 T) else dead) fit ∙ ap to (sym whole)
 
     answered : (v : Verdict) → Changed v T U → Answers (raise bound T) T U v
     answered Still same = (gives ∙ ap to same, same)

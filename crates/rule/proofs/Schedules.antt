@@ -1,5 +1,5 @@
 -- Schedules of tables of the same work.
-use Rattle.std.proofs.Common.{◌≡◌, ℕ, ◌+◌, ◌≤◌, max, cond, List, [], ◌∷◌, sym, refl, subst, ap₂}
+use Rattle.std.proofs.Common.{◌≡◌, ℕ, ◌+◌, ◌≤◌, max, if◌then◌else◌, List, [], ◌∷◌, sym, refl, subst, ap₂}
 use Rattle.lots.specs.Schedules.{spans, load, end, Placed, Schedule}
 use Rattle.lots.specs.declared.Lot.{Lot}
 use Rattle.rule.specs.Meanings.{SameWork}
@@ -11,7 +11,7 @@ load_same t [] (y ∷ ys) ss w = absurd w
 load_same t (x ∷ xs) [] ss w = absurd w
 load_same t (x ∷ xs) (y ∷ ys) [] w = refl
 load_same t (x ∷ xs) (y ∷ ys) (s ∷ ss) w =
-    ap₂ ◌+◌ (ap₂ (λ p c. cond (spans s (s + p) t) c 0) w.0.0 w.0.1) (load_same t xs ys ss w.1)
+    ap₂ ◌+◌ (ap₂ (λ p c. if spans s (s + p) t then c else 0) w.0.0 w.0.1) (load_same t xs ys ss w.1)
 
 -- so a schedule of a table is one of the same work wherever its starts fit
 pub schedule_same : (C : ℕ) (T U : List Lot) (ss : List ℕ) → SameWork T U → Placed U ss → Schedule C T ss → Schedule C U ss

@@ -1,5 +1,5 @@
 -- Earliest starts made later, all of them together.
-use Rattle.std.specs.Prelude.{◌≡◌, ℕ, suc, max, Bool, true, cond, ◌&&◌, List, [], ◌∷◌, ◌≢◌, nat_le}
+use Rattle.std.specs.Prelude.{◌≡◌, ℕ, suc, max, Bool, true, if◌then◌else◌, ◌&&◌, List, [], ◌∷◌, ◌≢◌, nat_le}
 use Rattle.lots.specs.Tables.{ect}
 use Rattle.lots.specs.declared.Lot.{Lot}
 use Rattle.rule.specs.Meanings.{Outcome, dead, to}
@@ -22,7 +22,7 @@ all_fit (x ∷ xs) = nat_le (ect x) x.lct && all_fit xs
 
 -- each lot starts at its bound or later; dead where a run does not fit then
 abbrev pub raise : (ℕ → ℕ) → List Lot → Outcome
-raise bound T = cond (all_fit (later_all bound 0 T)) (to (later_all bound 0 T)) dead
+raise bound T = if all_fit (later_all bound 0 T) then to (later_all bound 0 T) else dead
 
 -- the verdict on an outcome, where T is the table before and U the table after
 abbrev pub Answers : Outcome → List Lot → List Lot → Verdict → Type 0

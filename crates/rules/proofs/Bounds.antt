@@ -1,5 +1,5 @@
 -- The greatest bound over the lots is the greatest over their latest ends.
-use Rattle.std.proofs.Common.{◌≡◌, ℕ, zero, suc, ◌+◌, ◌<◌, ◌≤◌, Bool, true, false, cond, not, ◌&&◌, eqb, ltb, leb, ◌⊎◌, List, [], ◌∷◌, map, length, get_or, sym, refl, ap, ◌∙◌, subst, inl, inr, add-zero, zero-add, arith}
+use Rattle.std.proofs.Common.{◌≡◌, ℕ, zero, suc, ◌+◌, ◌<◌, ◌≤◌, Bool, true, false, if◌then◌else◌, not, ◌&&◌, eqb, ltb, leb, ◌⊎◌, List, [], ◌∷◌, map, length, get_or, sym, refl, ap, ◌∙◌, subst, inl, inr, add-zero, zero-add, arith}
 use Rattle.std.proofs.lemmas.Bool.{cases_eq, false≢true, and_parts, and_from, or_cases, or_left, or_right, eqb-true, eq-eqb, le-leb}
 use Rattle.lots.specs.Tables.{ect, lot_at}
 use Rattle.lots.specs.declared.Lot.{Lot}
@@ -14,7 +14,7 @@ use Rattle.rules.proofs.Raised.{raise_same}
 
 -- which numbers f the chosen lots have
 module _ (f : Lot → ℕ) (test : ℕ → Lot → Bool) where
-  has_cond : (b : Bool) (t : ℕ) (x : Lot) (xs : List Lot) → has t (map f (cond b (x ∷ xs) xs)) ≡ true → ((b ≡ true) × (f x ≡ t)) ⊎ (has t (map f xs) ≡ true)
+  has_cond : (b : Bool) (t : ℕ) (x : Lot) (xs : List Lot) → has t (map f (if b then x ∷ xs else xs)) ≡ true → ((b ≡ true) × (f x ≡ t)) ⊎ (has t (map f xs) ≡ true)
   has_cond true t x xs h = elim (or_cases (eqb t (f x)) (has t (map f xs)) h) [ inl e ↦ inl (refl, sym (eqb-true t (f x) e)) | inr g ↦ inr g ]
   has_cond false t x xs h = inr h
 
@@ -27,7 +27,7 @@ module _ (f : Lot → ℕ) (test : ℕ → Lot → Bool) where
         (suc r.0, omega (arith, r.1), subst (λ n. test n (lot_at xs r.0) ≡ true) (omega arith) r.2, r.3)
   ]
 
-  cond_has : (b : Bool) (t : ℕ) (x : Lot) (xs : List Lot) → has t (map f xs) ≡ true → has t (map f (cond b (x ∷ xs) xs)) ≡ true
+  cond_has : (b : Bool) (t : ℕ) (x : Lot) (xs : List Lot) → has t (map f xs) ≡ true → has t (map f (if b then x ∷ xs else xs)) ≡ true
   cond_has true t x xs h = or_right (eqb t (f x)) (has t (map f xs)) h
   cond_has false t x xs h = h
 
@@ -35,7 +35,7 @@ module _ (f : Lot → ℕ) (test : ℕ → Lot → Bool) where
   chosen_has k j [] h e = absurd (omega arith)
   chosen_has k zero (x ∷ xs) h e =
       let in' = subst (λ n. test n x ≡ true) (add-zero k) e in
-      ap (λ b. has (f x) (map f (cond b (x ∷ chosen test (suc k) xs) (chosen test (suc k) xs)))) in'
+      ap (λ b. has (f x) (map f (if b then x ∷ chosen test (suc k) xs else chosen test (suc k) xs))) in'
       ∙ or_left (eqb (f x) (f x)) (has (f x) (map f (chosen test (suc k) xs))) (eq-eqb (f x) (f x) refl)
   chosen_has k (suc j) (x ∷ xs) h e =
       cond_has (test k x) (f (lot_at xs j)) x (chosen test (suc k) xs) (chosen_has (suc k) j xs (omega arith) (subst (λ n. test n (lot_at xs j) ≡ true) (omega arith) e))
@@ -58,15 +58,15 @@ module _ (C : ℕ) (T : List Lot) (i : ℕ) where
   abbrev e : ℕ
   e = (lot_at T i).est
 
-  cond_zero : (b : Bool) (n m : ℕ) → (b ≡ true → n ≤ m) → cond b n 0 ≤ m
+  cond_zero : (b : Bool) (n m : ℕ) → (b ≡ true → n ≤ m) → (if b then n else 0) ≤ m
   cond_zero true n m h = h refl
   cond_zero false n m h = omega arith
 
   -- a lot with the latest end t, but i, that cannot be out by the est of i
   bound_at_end : (j t : ℕ) → (lot_at T j).lct ≡ t → not (eqb j i) ≡ true → ltb e (ect (lot_at T j)) ≡ true → overfull C (with_stand_in T i t) ≡ true → bound_by C T i j ≡ least_ect (cut T i t)
   bound_at_end j t is other late full =
-      ap (λ u. cond (not (eqb j i) && (ltb e (ect (lot_at T j)) && overfull C (with_stand_in T i u))) (least_ect (cut T i u)) 0) is
-      ∙ ap (λ b. cond b (least_ect (cut T i t)) 0)
+      ap (λ u. if not (eqb j i) && (ltb e (ect (lot_at T j)) && overfull C (with_stand_in T i u)) then least_ect (cut T i u) else 0) is
+      ∙ ap (λ b. if b then least_ect (cut T i t) else 0)
       (and_from (not (eqb j i)) (ltb e (ect (lot_at T j)) && overfull C (with_stand_in T i t)) other (and_from (ltb e (ect (lot_at T j))) (overfull C (with_stand_in T i t)) late full))
 
   -- the bound of a latest end is that of a lot that has it
@@ -89,7 +89,7 @@ module _ (C : ℕ) (T : List Lot) (i : ℕ) where
       let second = and_parts (ltb e (ect (lot_at T j))) (overfull C (with_stand_in T i t)) first.1 in
       let passed = and_from (not (eqb j i)) (ltb e (ect (lot_at T j)) && leb t t) first.0 (and_from (ltb e (ect (lot_at T j))) (leb t t) second.0 (le-leb t t (omega arith))) in
       let known = chosen_has (λ (x : Lot). x.lct) (in_cut i e t) 0 j T h (subst (λ n. in_cut i e t n (lot_at T j) ≡ true) (sym (zero-add j)) passed) in
-      omega (arith, ap (λ b. cond b (least_ect (cut T i t)) 0) (and_from (has t (ends_of (cut T i t))) (overfull C (with_stand_in T i t)) known second.1)))
+      omega (arith, ap (λ b. if b then least_ect (cut T i t) else 0) (and_from (has t (ends_of (cut T i t))) (overfull C (with_stand_in T i t)) known second.1)))
 
   ends_most : (ts : List ℕ) → greatest_end_bound C T i ts ≤ greatest_bound C T i (length T)
   ends_most [] = omega arith

@@ -10,12 +10,12 @@ use Rattle.lots.specs.Limits.{max_lots}
 use Rattle.lots.specs.Tables.{lot_at}
 use Rattle.lots.specs.declared.Lot.{Lot}
 use Rattle.elastic.specs.Profile.{has}
-use Rattle.elastic.specs.Rows.{Ascending, Put, Seated}
-use Rattle.elastic.specs.declared.row.Place.{Place}
-use Rattle.elastic.specs.declared.row.Place.TheVariants.{Placed, Present, Full}
+use Rattle.row.specs.Rows.{Ascending, Put, Seated}
+use Rattle.row.specs.declared.row.Place.{Place}
+use Rattle.row.specs.declared.row.Place.TheVariants.{Placed, Present, Full}
 use Rattle.elastic.proofs.Counts.{has_push}
 use Rattle.elastic.proofs.Keys.{key_has, keys_put, lacks_key}
-use Rattle.elastic.proofs.Rows.{nowhere}
+use Rattle.row.proofs.Rows.{nowhere}
 use Rattle.rules.specs.Ends.{ends_of, end_minutes, Lowest, DistinctEnds}
 use Rattle.rules.specs.declared.ends.End.{End}
 

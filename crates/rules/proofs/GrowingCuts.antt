@@ -1,5 +1,5 @@
 -- A cut that grows with its latest end, as marks of its lots.
-use Rattle.std.proofs.Common.{◌≡◌, ℕ, zero, suc, ◌+◌, ◌<◌, ◌≤◌, min, max, Bool, true, false, cond, not, ◌&&◌, ◌||◌, eqb, ltb, leb, List, [], ◌∷◌, ◌++◌, length, get_or, take, sym, refl, ap, ap₂, ◌∙◌, subst, inl, inr, add-one, add-zero, arith}
+use Rattle.std.proofs.Common.{◌≡◌, ℕ, zero, suc, ◌+◌, ◌<◌, ◌≤◌, min, max, Bool, true, false, if◌then◌else◌, not, ◌&&◌, ◌||◌, eqb, ltb, leb, List, [], ◌∷◌, ◌++◌, length, get_or, take, sym, refl, ap, ap₂, ◌∙◌, subst, inl, inr, add-one, add-zero, arith}
 use Rattle.std.proofs.lemmas.List.{map_more, map-append, append-nil}
 use Rattle.std.proofs.ByRecursion.{All-get_or}
 use Rattle.std.proofs.Math.Bool.{and-true, and-false, or-false}
@@ -25,12 +25,12 @@ those_chosen test k [] [] h = refl
 those_chosen test k [] (x ∷ xs) h =
     let out : test k x ≡ false = sym (h 0 (omega arith) ∙ ap (λ n. test n x) (add-zero k)) in
     let rest = those_chosen test (suc k) [] xs (λ j l. h (suc j) (omega arith) ∙ ap (λ n. test n (lot_at xs j)) (omega arith)) in
-    rest ∙ ap (λ b. cond b (x ∷ chosen test (suc k) xs) (chosen test (suc k) xs)) (sym out)
+    rest ∙ ap (λ b. if b then x ∷ chosen test (suc k) xs else chosen test (suc k) xs) (sym out)
 those_chosen test k (b ∷ bs) [] h = refl
 those_chosen test k (b ∷ bs) (x ∷ xs) h =
     let here : b ≡ test k x = h 0 (omega arith) ∙ ap (λ n. test n x) (add-zero k) in
     let rest = those_chosen test (suc k) bs xs (λ j l. h (suc j) (omega arith) ∙ ap (λ n. test n (lot_at xs j)) (omega arith)) in
-    ap₂ (λ c ys. cond c (x ∷ ys) ys) here rest
+    ap₂ (λ c ys. if c then x ∷ ys else ys) here rest
 
 pub marked_cut : (T : List Lot) (i t : ℕ) (bs : List Bool) → Marks T i t bs → those bs T ≡ cut T i t
 marked_cut T i t bs h = those_chosen (in_cut i (lot_at T i).est t) 0 bs T (λ j l. h j l ∙ ap (λ n. in_cut i (lot_at T i).est t n (lot_at T j)) (omega arith))
@@ -41,7 +41,7 @@ left_beside C T i t bs h m e left is = is ∙ ap₂ (λ Ω n. overflow C (Ω ++ 
 
 -- whether a lot has the end t, one lot more
 module _ (test : ℕ → Lot → Bool) (t : ℕ) where
-  ends_cond : (b : Bool) (x : Lot) (xs : List Lot) → has t (ends_of (xs ++ cond b (x ∷ []) [])) ≡ ((eqb t x.lct && b) || has t (ends_of xs))
+  ends_cond : (b : Bool) (x : Lot) (xs : List Lot) → has t (ends_of (xs ++ (if b then x ∷ [] else []))) ≡ ((eqb t x.lct && b) || has t (ends_of xs))
   ends_cond true x xs =
       ap (has t) (map-append (λ (y : Lot). y.lct) xs (x ∷ [])) ∙ has_push t x.lct (ends_of xs) ∙ ap (λ b. b || has t (ends_of xs)) (sym (and-true (eqb t x.lct)))
   ends_cond false x xs = ap (λ ys. has t (ends_of ys)) (append-nil xs) ∙ ap (λ b. b || has t (ends_of xs)) (sym (and-false (eqb t x.lct)))
@@ -165,8 +165,8 @@ module _ (T : List Lot) (i : ℕ) (es : List End) (is : DistinctEnds T es) where
 
 -- the bound that an end puts
 module _ (C : ℕ) (T : List Lot) (i t : ℕ) where
-  by_tests : (b d : Bool) → has t (ends_of (cut T i t)) ≡ b → overfull C (with_stand_in T i t) ≡ d → end_bound C T i t ≡ cond (b && d) (least_ect (cut T i t)) 0
-  by_tests b d e f = ap₂ (λ p q. cond (p && q) (least_ect (cut T i t)) 0) e f
+  by_tests : (b d : Bool) → has t (ends_of (cut T i t)) ≡ b → overfull C (with_stand_in T i t) ≡ d → end_bound C T i t ≡ (if b && d then least_ect (cut T i t) else 0)
+  by_tests b d e f = ap₂ (λ p q. if p && q then least_ect (cut T i t) else 0) e f
 
   pub no_end : has t (ends_of (cut T i t)) ≡ false → end_bound C T i t ≡ 0
   no_end e = by_tests false (overfull C (with_stand_in T i t)) e refl

@@ -1,5 +1,5 @@
 -- The loads of the fixed parts, minute by minute, and what is read off them.
-use Rattle.std.proofs.Common.{◌≡◌, ℕ, zero, suc, ◌+◌, ◌-◌, ◌*◌, ◌<◌, ◌≤◌, Bool, true, false, cond, ◌&&◌, ltb, leb, List, [], ◌∷◌, length, get_or, take, Option, None, Some, MatchOption, Ok, inl, inr, refl, sym, ap, ◌∙◌, subst, arith}
+use Rattle.std.proofs.Common.{◌≡◌, ℕ, zero, suc, ◌+◌, ◌-◌, ◌*◌, ◌<◌, ◌≤◌, Bool, true, false, if◌then◌else◌, ◌&&◌, ltb, leb, List, [], ◌∷◌, length, get_or, take, Option, None, Some, MatchOption, Ok, inl, inr, refl, sym, ap, ◌∙◌, subst, arith}
 use Rattle.std.specs.Bool.{MatchBool}
 use Rattle.std.specs.List.{AllByRecursion, sum_by}
 use Rattle.std.proofs.ByRecursion.{All-get_or}
@@ -101,8 +101,8 @@ module _ (C : ℕ) (T : List Lot) (s t : Table) (same : s ≡ t) (is : (t.capaci
   here : (P : ℕ → List Lot → Type 0) → P s.capacity s.lots.now → P C T
   here P h = subst (λ D. P D T) (ap (λ (u : Table). u.capacity) same ∙ is.0) (subst (P s.capacity) (ap (λ (u : Table). u.lots.now) same ∙ is.1) h)
 
-  choice : (b : Bool) → b ≡ passes s → time_table s.capacity s.lots.now ≡ cond b dead (raise (bound_of s.capacity s.lots.now) s.lots.now)
-  choice b e = ap (λ d. cond d dead (raise (bound_of s.capacity s.lots.now) s.lots.now)) (sym e)
+  choice : (b : Bool) → b ≡ passes s → time_table s.capacity s.lots.now ≡ (if b then dead else raise (bound_of s.capacity s.lots.now) s.lots.now)
+  choice b e = ap (λ d. if d then dead else raise (bound_of s.capacity s.lots.now) s.lots.now) (sym e)
 
   pub dead_applied : true ≡ passes s → Applied time_table C T T (Ok Dead)
   dead_applied e = (is.2, here (λ D U. time_table D U ≡ dead) (choice true e), refl)

@@ -1,5 +1,5 @@
 -- A rule that raises earliest starts applies its meaning.
-use Rattle.std.proofs.Common.{◌≡◌, ℕ, suc, ◌+◌, ◌<◌, cond, List, [], ◌∷◌, length, Ok, refl, ap, ◌∙◌, subst, ap₂, arith}
+use Rattle.std.proofs.Common.{◌≡◌, ℕ, suc, ◌+◌, ◌<◌, if◌then◌else◌, List, [], ◌∷◌, length, Ok, refl, ap, ◌∙◌, subst, ap₂, arith}
 use Rattle.lots.specs.Tables.{Lawful}
 use Rattle.lots.specs.declared.Lot.{Lot}
 use Rattle.rule.specs.Meanings.{Meaning, Applied, dead, to}
@@ -17,7 +17,7 @@ later_same f g k (x ∷ xs) h =
 
 pub raise_same : (f g : ℕ → ℕ) (T : List Lot) → ((j : ℕ) → j < length T → f j ≡ g j) → raise f T ≡ raise g T
 raise_same f g T h =
-    ap (λ U. cond (all_fit U) (to U) dead) (later_same f g 0 T (λ j l. subst (λ n. f n ≡ g n) (omega arith) (h j l)))
+    ap (λ U. if all_fit U then to U else dead) (later_same f g 0 T (λ j l. subst (λ n. f n ≡ g n) (omega arith) (h j l)))
 
 pub applied_from_answers : (m : Meaning) (C : ℕ) (T U : List Lot) (bound : ℕ → ℕ) (v : Verdict) → Lawful C T → m C T ≡ raise bound T → Answers (raise bound T) T U v → Applied m C T U (Ok v)
 applied_from_answers m C T U bound Still ok e a = (ok, e ∙ a.0, a.1)

@@ -5,7 +5,7 @@ use Rattle.std.specs.List.{AllByRecursion}
 use Rattle.lots.specs.Tables.{lot_at}
 use Rattle.lots.specs.declared.Lot.{Lot}
 use Rattle.elastic.specs.Profile.{has}
-use Rattle.elastic.specs.Rows.{Ascending}
+use Rattle.row.specs.Rows.{Ascending}
 use Rattle.rules.specs.declared.ends.End.{End}
 
 abbrev pub ends_of : List Lot → List ℕ

@@ -1,5 +1,5 @@
 -- A lot that cannot start before some others have ended.
-use Rattle.std.specs.Prelude.{ℕ, zero, suc, min, max, Bool, cond, not, ◌&&◌, List, [], ◌∷◌, ◌++◌, length, ◌==◌, nat_le, nat_lt}
+use Rattle.std.specs.Prelude.{ℕ, zero, suc, min, max, Bool, if◌then◌else◌, not, ◌&&◌, List, [], ◌∷◌, ◌++◌, length, ◌==◌, nat_le, nat_lt}
 use Rattle.lots.specs.Tables.{ect, lot_at}
 use Rattle.lots.specs.declared.Lot.{Lot}
 use Rattle.elastic.specs.Parts.{kept}
@@ -31,8 +31,7 @@ with_stand_in T i t = cut T i t ++ kept (lot_at T i).c (min (ect (lot_at T i)) t
 -- the bound that the lot j puts on the est of i, 0 where it puts none
 abbrev pub bound_by : ℕ → List Lot → ℕ → ℕ → ℕ
 bound_by C T i j =
-    cond (not (j == i) && (nat_lt (lot_at T i).est (ect (lot_at T j)) && overfull C (with_stand_in T i (lot_at T j).lct)))
-    (least_ect (cut T i (lot_at T j).lct)) 0
+    if not (j == i) && (nat_lt (lot_at T i).est (ect (lot_at T j)) && overfull C (with_stand_in T i (lot_at T j).lct)) then least_ect (cut T i (lot_at T j).lct) else 0
 
 -- the greatest of those that the first n lots put
 abbrev pub greatest_bound : ℕ → List Lot → ℕ → ℕ → ℕ
@@ -44,7 +43,7 @@ not_first C T = raise (λ i. greatest_bound C T i (length T)) T
 
 -- the bound that the latest end t puts on the est of i, by whichever lot of the cut has it
 abbrev pub end_bound : ℕ → List Lot → ℕ → ℕ → ℕ
-end_bound C T i t = cond (has t (ends_of (cut T i t)) && overfull C (with_stand_in T i t)) (least_ect (cut T i t)) 0
+end_bound C T i t = if has t (ends_of (cut T i t)) && overfull C (with_stand_in T i t) then least_ect (cut T i t) else 0
 
 -- the greatest of those that the latest ends ts put
 abbrev pub greatest_end_bound : ℕ → List Lot → ℕ → List ℕ → ℕ

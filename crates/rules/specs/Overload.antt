@@ -1,5 +1,5 @@
 -- Lots that must all be out by a minute, and are overfull.
-use Rattle.std.specs.Prelude.{ℕ, Bool, false, cond, ◌||◌, List, [], ◌∷◌, nat_le}
+use Rattle.std.specs.Prelude.{ℕ, Bool, false, if◌then◌else◌, ◌||◌, List, [], ◌∷◌, nat_le}
 use Rattle.lots.specs.declared.Lot.{Lot}
 use Rattle.rule.specs.Meanings.{Meaning, dead, to}
 use Rattle.rules.specs.Chosen.{chosen, overfull}
@@ -16,4 +16,4 @@ some_overfull C T (t ∷ ts) = overfull C (due t T) || some_overfull C T ts
 
 -- dead where that holds of the latest end of some lot; else the table stays as it is
 abbrev pub overload : Meaning
-overload C T = cond (some_overfull C T (ends_of T)) dead (to T)
+overload C T = if some_overfull C T (ends_of T) then dead else to T

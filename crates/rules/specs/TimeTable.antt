@@ -1,5 +1,5 @@
 -- The rule time-table: a lot starts after the minutes at which it does not fit beside the fixed parts of the others.
-use Rattle.std.specs.Prelude.{ℕ, zero, suc, ◌+◌, ◌-◌, Bool, false, cond, ◌&&◌, ◌||◌, List, [], ◌∷◌, nat_le, nat_lt, slice_index}
+use Rattle.std.specs.Prelude.{ℕ, zero, suc, ◌+◌, ◌-◌, Bool, false, if◌then◌else◌, ◌&&◌, ◌||◌, List, [], ◌∷◌, nat_le, nat_lt, slice_index}
 use Rattle.lots.specs.Limits.{horizon}
 use Rattle.lots.specs.Schedules.{spans}
 use Rattle.lots.specs.Tables.{ect, lst, lot_at}
@@ -9,7 +9,7 @@ use Rattle.rule.specs.Raised.{raise}
 
 -- the trays that the lot x holds at t whenever it starts: its fixed part is lst ≤ t < ect
 abbrev pub fixed : Lot → ℕ → ℕ
-fixed x t = cond (spans (lst x) (ect x) t) x.c 0
+fixed x t = if spans (lst x) (ect x) t then x.c else 0
 
 -- those of all lots
 abbrev pub fixed_load : List Lot → ℕ → ℕ
@@ -30,7 +30,7 @@ some_below f (suc n) = f n || some_below f n
 -- the minute after the last one below n of which a test holds, or 0
 unfoldable pub after_last : (ℕ → Bool) → ℕ → ℕ
 after_last f zero = 0
-after_last f (suc n) = cond (f n) (suc n) (after_last f n)
+after_last f (suc n) = if f n then suc n else after_last f n
 
 -- whether the lot j may start by t, but does not fit at t beside the fixed parts of the others
 abbrev pub blocked : ℕ → List Lot → ℕ → ℕ → Bool
@@ -46,4 +46,4 @@ bound_of C T j = after_last (blocked C T j) (ect (lot_at T j))
 
 -- dead where the fixed parts pass the capacity; else all lots start at their bounds or later
 abbrev pub time_table : Meaning
-time_table C T = cond (some_below (λ t. nat_lt C (fixed_load T t)) horizon) dead (raise (bound_of C T) T)
+time_table C T = if (some_below (λ t. nat_lt C (fixed_load T t)) horizon) then dead else raise (bound_of C T) T

@@ -1,7 +1,7 @@
 // The distinct latest ends of a table, in their order.
 ghost use Rattle.rules.specs.Ends.{DistinctEnds};
 
-use elastic::{ArrayRow, Keyed};
+use row::{ArrayRow, Keyed};
 use lots::{MAX_LOTS, Table};
 
 // A latest end, with the lowest number of a lot that has it, at which the search for the lots of this end begins.

@@ -1,5 +1,5 @@
 -- The unvisited nodes, and the visit that is left of them.
-use Rattle.std.proofs.Common.{◌≡◌, ℕ, zero, suc, ◌+◌, ◌-◌, ◌<◌, ◌≤◌, true, false, cond, nat_lt, List, [], ◌∷◌, ◌++◌, length, sym, ap, ◌∙◌, subst, append_assoc, arith}
+use Rattle.std.proofs.Common.{◌≡◌, ℕ, zero, suc, ◌+◌, ◌-◌, ◌<◌, ◌≤◌, true, false, if◌then◌else◌, nat_lt, List, [], ◌∷◌, ◌++◌, length, sym, ap, ◌∙◌, subst, append_assoc, arith}
 use Rattle.std.proofs.lemmas.Bool.Decides.{nat_tests}
 use Rattle.std.proofs.lemmas.List.Elements.{length_all_zip}
 use Rattle.lots.specs.Tables.{ect, lst, lot_at, Lawful}
@@ -12,7 +12,7 @@ use Rattle.tree.proofs.Nodes.{leaves_remains}
 use Rattle.tree.proofs.Law.{left_below, right_below, final_append}
 
 -- lots with a choice of starts
-free_one : (x y : Lot) → y.p ≡ x.p → x.est ≤ y.est → y.lct ≤ x.lct → cond (nat_lt y.est (lst y)) 1 0 ≤ cond (nat_lt x.est (lst x)) 1 0
+free_one : (x y : Lot) → y.p ≡ x.p → x.est ≤ y.est → y.lct ≤ x.lct → (if nat_lt y.est (lst y) then 1 else 0) ≤ (if nat_lt x.est (lst x) then 1 else 0)
 free_one x y e f g = grind (arith, nat_tests)
 
 free_fewer : (T U : List Lot) → SameWork T U → Narrower T U → free U ≤ free T
@@ -26,12 +26,12 @@ free_left [] j h f = absurd (omega arith)
 free_left (x ∷ xs) zero h f =
     let on : nat_lt x.est (lst x) ≡ true = grind (arith, nat_tests) in
     let off : nat_lt x.est (ect x - x.p) ≡ false = grind (arith, nat_tests) in
-    omega (arith, ap (λ b. cond b 1 0 + free xs) on, ap (λ b. cond b 1 0 + free xs) off)
+    omega (arith, ap (λ b. (if b then 1 else 0) + free xs) on, ap (λ b. (if b then 1 else 0) + free xs) off)
 free_left (x ∷ xs) (suc j) h f = omega (arith, free_left xs j (omega arith) f)
 
 pub free_most : (T : List Lot) → free T ≤ length T
 free_most [] = omega arith
-free_most (x ∷ xs) = let one : cond (nat_lt x.est (lst x)) 1 0 ≤ 1 = grind (arith, nat_tests) in omega (arith, free_most xs)
+free_most (x ∷ xs) = let one : (if nat_lt x.est (lst x) then 1 else 0) ≤ 1 = grind (arith, nat_tests) in omega (arith, free_most xs)
 
 module _ (m : Meaning) (sound : Sound m) (C : ℕ) where
   -- the nodes below a node have fewer lots with a choice on the left, and no more on the right

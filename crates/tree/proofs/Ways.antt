@@ -1,5 +1,5 @@
 -- Narrower tables have fewer ways to start, and the two nodes below a table share its ways.
-use Rattle.std.proofs.Common.{◌≡◌, ℕ, zero, suc, ◌+◌, ◌-◌, ◌*◌, ◌<◌, ◌≤◌, false, cond, ◌⊎◌, List, [], ◌∷◌, length, set, sym, refl, ap, ap₂, ◌∙◌, inl, inr, add-mul, mul-add, mul-le-mul, arith}
+use Rattle.std.proofs.Common.{◌≡◌, ℕ, zero, suc, ◌+◌, ◌-◌, ◌*◌, ◌<◌, ◌≤◌, false, if◌then◌else◌, ◌⊎◌, List, [], ◌∷◌, length, set, sym, refl, ap, ap₂, ◌∙◌, inl, inr, add-mul, mul-add, mul-le-mul, arith}
 use Rattle.std.proofs.Math.Nat.{one-le-mul}
 use Rattle.std.proofs.ByRecursion.{All-set, All-get_or}
 use Rattle.std.proofs.lemmas.Bool.{cases_lt}
@@ -30,7 +30,7 @@ load_after t [] ss h = refl
 load_after t (x ∷ xs) [] h = refl
 load_after t (x ∷ xs) (s ∷ ss) h =
     let out : spans s (s + x.p) t ≡ false = grind (arith, nat_tests) in
-    ap₂ (λ b n. cond b x.c 0 + n) out (load_after t xs ss (omega arith))
+    ap₂ (λ b n. (if b then x.c else 0) + n) out (load_after t xs ss (omega arith))
 
 -- so a load that is within the capacity until then is so at every minute
 pub to_the_end : (C : ℕ) (T : List Lot) (ss : List ℕ) → ((t : ℕ) → t < end T ss → load t T ss ≤ C) → (t : ℕ) → load t T ss ≤ C

@@ -1,5 +1,5 @@
 -- What only the contracts of the private code speak of: the unvisited nodes, as tables one after another in a row of cells.
-use Rattle.std.specs.Prelude.{◌≡◌, ℕ, zero, suc, ◌+◌, ◌*◌, ◌<◌, ◌≤◌, Bool, true, false, cond, List, [], ◌∷◌, length, take, drop, nat_lt}
+use Rattle.std.specs.Prelude.{◌≡◌, ℕ, zero, suc, ◌+◌, ◌*◌, ◌<◌, ◌≤◌, Bool, true, false, if◌then◌else◌, List, [], ◌∷◌, length, take, drop, nat_lt}
 use Rattle.lots.specs.Tables.{lst, Lawful}
 use Rattle.lots.specs.declared.Lot.{Lot}
 use Rattle.rule.specs.Meanings.{Meaning, to}
@@ -13,7 +13,7 @@ tables n (suc d) cells = take n (drop (d * n) cells) ∷ tables n d cells
 -- how many lots have a choice of starts
 abbrev pub free : List Lot → ℕ
 free [] = 0
-free (x ∷ xs) = cond (nat_lt x.est (lst x)) 1 0 + free xs
+free (x ∷ xs) = (if nat_lt x.est (lst x) then 1 else 0) + free xs
 
 -- tables that can be visited with room for n + 1: one that lies on k others has n − k lots with a choice at most
 abbrev pub Standing : ℕ → ℕ → List (List Lot) → Type 0

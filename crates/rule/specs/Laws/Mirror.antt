@@ -1,5 +1,5 @@
 -- Schedules read from the other end of the week.
-use Rattle.std.specs.Prelude.{◌≡◌, ℕ, ◌+◌, ◌-◌, ◌<◌, ◌≤◌, false, cond, List, [], ◌∷◌, map, Ok, Err, Result, refl}
+use Rattle.std.specs.Prelude.{◌≡◌, ℕ, ◌+◌, ◌-◌, ◌<◌, ◌≤◌, false, if◌then◌else◌, List, [], ◌∷◌, map, Ok, Err, Result, refl}
 use Rattle.std.proofs.Common.{inl, inr, sym, ap, ap₂, subst, ◌∙◌, arith}
 use Rattle.std.proofs.lemmas.Bool.{cases_lt}
 use Rattle.std.proofs.lemmas.Bool.Decides.{nat_tests}
@@ -45,13 +45,13 @@ load_mirror : (t : ℕ) (T : List Lot) (ss : List ℕ) → t < horizon → AllBy
 load_mirror t [] ss k h p = refl
 load_mirror t (x ∷ xs) [] k h p = refl
 load_mirror t (x ∷ xs) (s ∷ ss) k h p =
-    ap₂ ◌+◌ (ap (λ b. cond b x.c 0) (spans_mirror t s x.p k (omega arith))) (load_mirror t xs ss k h.1 p.1)
+    ap₂ ◌+◌ (ap (λ b. if b then x.c else 0) (spans_mirror t s x.p k (omega arith))) (load_mirror t xs ss k h.1 p.1)
 
 load_late : (t : ℕ) (T : List Lot) (ss : List ℕ) → horizon ≤ t → AllByRecursion InWeek T → Placed T ss → load t (map turn T) (mirror T ss) ≡ 0
 load_late t [] ss k h p = refl
 load_late t (x ∷ xs) [] k h p = refl
 load_late t (x ∷ xs) (s ∷ ss) k h p =
-    ap₂ ◌+◌ (ap (λ b. cond b x.c 0) (spans_late t s x.p k (omega arith))) (load_late t xs ss k h.1 p.1)
+    ap₂ ◌+◌ (ap (λ b. if b then x.c else 0) (spans_late t s x.p k (omega arith))) (load_late t xs ss k h.1 p.1)
 
 pub mirrored : (C : ℕ) (T : List Lot) (ss : List ℕ) → AllByRecursion InWeek T → Schedule C T ss → Schedule C (map turn T) (mirror T ss)
 mirrored C T ss h s = record {

@@ -1,5 +1,5 @@
 -- What holds of an outcome, made weaker.
-use Rattle.std.specs.Prelude.{◌≡◌, ℕ, Bool, true, false, cond, List, Ok, Err, Result, ◌≢◌, refl}
+use Rattle.std.specs.Prelude.{◌≡◌, ℕ, Bool, true, false, if◌then◌else◌, List, Ok, Err, Result, ◌≢◌, refl}
 use Rattle.std.proofs.Common.{sym, ap, subst, ◌∙◌}
 use Rattle.lots.specs.Tables.{Lawful}
 use Rattle.lots.specs.declared.Lot.{Lot}
@@ -33,11 +33,11 @@ applied_lawful m p C T U (Ok Dead) ok a = subst (Lawful C) (sym a.2) ok
 applied_lawful m p C T U (Err e) ok a = absurd (a.0 ok)
 
 -- what holds of both ways holds of the choice
-pub gives_either : (o : Outcome) (P : List Lot → Type 0) (b : Bool) → Gives o P → Gives (cond b dead o) P
+pub gives_either : (o : Outcome) (P : List Lot → Type 0) (b : Bool) → Gives o P → Gives (if b then dead else o) P
 gives_either o P true h = tt
 gives_either o P false h = h
 
-pub dies_either : (o : Outcome) (P : Type 0) (b : Bool) → (b ≡ true → P) → Dies o P → Dies (cond b dead o) P
+pub dies_either : (o : Outcome) (P : Type 0) (b : Bool) → (b ≡ true → P) → Dies o P → Dies (if b then dead else o) P
 dies_either o P true d h = d refl
 dies_either o P false d h = h
 

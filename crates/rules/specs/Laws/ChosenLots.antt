@@ -1,5 +1,5 @@
 -- What holds of a table holds of some of its lots.
-use Rattle.std.specs.Prelude.{◌≡◌, ℕ, suc, ◌+◌, ◌<◌, ◌≤◌, Bool, true, false, cond, List, [], ◌∷◌, ◌++◌, length, take}
+use Rattle.std.specs.Prelude.{◌≡◌, ℕ, suc, ◌+◌, ◌<◌, ◌≤◌, Bool, true, false, if◌then◌else◌, List, [], ◌∷◌, ◌++◌, length, take}
 use Rattle.std.proofs.Common.{sym, ap, ◌∙◌, zero-add, add-zero, arith}
 use Rattle.std.specs.List.{AllByRecursion}
 use Rattle.std.proofs.lemmas.List.{append-nil, take_more, length-take-le}
@@ -14,9 +14,9 @@ module _ (test : ℕ → Lot → Bool) where
   abbrev pub starts : ℕ → List Lot → List ℕ → List ℕ
   starts k [] ss = []
   starts k (x ∷ xs) [] = []
-  starts k (x ∷ xs) (s ∷ ss) = cond (test k x) (s ∷ starts (suc k) xs ss) (starts (suc k) xs ss)
+  starts k (x ∷ xs) (s ∷ ss) = if test k x then s ∷ starts (suc k) xs ss else starts (suc k) xs ss
 
-  placed_cond : (b : Bool) (x : Lot) (s : ℕ) (xs : List Lot) (ss : List ℕ) → (x.est ≤ s) × (s + x.p ≤ x.lct) → Placed xs ss → Placed (cond b (x ∷ xs) xs) (cond b (s ∷ ss) ss)
+  placed_cond : (b : Bool) (x : Lot) (s : ℕ) (xs : List Lot) (ss : List ℕ) → (x.est ≤ s) × (s + x.p ≤ x.lct) → Placed xs ss → Placed (if b then x ∷ xs else xs) (if b then s ∷ ss else ss)
   placed_cond true x s xs ss p q = (p, q)
   placed_cond false x s xs ss p q = q
 
@@ -26,7 +26,7 @@ module _ (test : ℕ → Lot → Bool) where
   chosen_placed k (x ∷ xs) [] p = absurd p
   chosen_placed k (x ∷ xs) (s ∷ ss) p = placed_cond (test k x) x s (chosen test (suc k) xs) (starts (suc k) xs ss) p.0 (chosen_placed (suc k) xs ss p.1)
 
-  pub load_cond : (t : ℕ) (b : Bool) (x : Lot) (s : ℕ) (xs : List Lot) (ss : List ℕ) → load t (cond b (x ∷ xs) xs) (cond b (s ∷ ss) ss) ≤ cond (spans s (s + x.p) t) x.c 0 + load t xs ss
+  pub load_cond : (t : ℕ) (b : Bool) (x : Lot) (s : ℕ) (xs : List Lot) (ss : List ℕ) → load t (if b then x ∷ xs else xs) (if b then s ∷ ss else ss) ≤ (if spans s (s + x.p) t then x.c else 0) + load t xs ss
   load_cond t true x s xs ss = omega arith
   load_cond t false x s xs ss = omega arith
 
@@ -59,24 +59,24 @@ module _ (test : ℕ → Lot → Bool) where
   }
 
   -- the loop that gathers, one lot more
-  chosen_push : (k : ℕ) (T : List Lot) (x : Lot) → chosen test k (T ++ (x ∷ [])) ≡ chosen test k T ++ cond (test (k + length T) x) (x ∷ []) []
-  chosen_push k [] x = ap (λ n. cond (test n x) (x ∷ []) []) (sym (add-zero k))
+  chosen_push : (k : ℕ) (T : List Lot) (x : Lot) → chosen test k (T ++ (x ∷ [])) ≡ chosen test k T ++ (if test (k + length T) x then x ∷ [] else [])
+  chosen_push k [] x = ap (λ n. if test n x then x ∷ [] else []) (sym (add-zero k))
   chosen_push k (y ∷ ys) x =
-      let rest = chosen_push (suc k) ys x ∙ ap (λ n. chosen test (suc k) ys ++ cond (test n x) (x ∷ []) []) (omega arith) in
-      ap (λ zs. cond (test k y) (y ∷ zs) zs) rest ∙ cond_append (test k y) y (chosen test (suc k) ys) (cond (test (k + suc (length ys)) x) (x ∷ []) [])
+      let rest = chosen_push (suc k) ys x ∙ ap (λ n. chosen test (suc k) ys ++ (if test n x then x ∷ [] else [])) (omega arith) in
+      ap (λ zs. if test k y then y ∷ zs else zs) rest ∙ cond_append (test k y) y (chosen test (suc k) ys) (if test (k + suc (length ys)) x then x ∷ [] else [])
 
-  pub chosen_more : (T : List Lot) (i : ℕ) → i < length T → chosen test 0 (take (i + 1) T) ≡ chosen test 0 (take i T) ++ cond (test i (lot_at T i)) (lot_at T i ∷ []) []
+  pub chosen_more : (T : List Lot) (i : ℕ) → i < length T → chosen test 0 (take (i + 1) T) ≡ chosen test 0 (take i T) ++ (if test i (lot_at T i) then lot_at T i ∷ [] else [])
   chosen_more T i h =
       ap (chosen test 0) (take_more T i _ h)
       ∙ chosen_push 0 (take i T) (lot_at T i)
-      ∙ ap (λ n. chosen test 0 (take i T) ++ cond (test n (lot_at T i)) (lot_at T i ∷ []) []) (zero-add (length (take i T)) ∙ length-take-le i T (omega arith))
+      ∙ ap (λ n. chosen test 0 (take i T) ++ (if test n (lot_at T i) then lot_at T i ∷ [] else [])) (zero-add (length (take i T)) ∙ length-take-le i T (omega arith))
 
   module _ (T : List Lot) (i : ℕ) (h : i < length T) (xs : List Lot) (is : xs ≡ chosen test 0 (take i T)) where
     pub chosen_takes : test i (lot_at T i) ≡ true → (ys : List Lot) → ys ≡ xs ++ (lot_at T i ∷ []) → ys ≡ chosen test 0 (take (i + 1) T)
     chosen_takes passed ys made =
         made ∙ ap (λ zs. zs ++ (lot_at T i ∷ [])) is
-        ∙ sym (chosen_more T i h ∙ ap (λ b. chosen test 0 (take i T) ++ cond b (lot_at T i ∷ []) []) passed)
+        ∙ sym (chosen_more T i h ∙ ap (λ b. chosen test 0 (take i T) ++ (if b then lot_at T i ∷ [] else [])) passed)
 
     pub chosen_skips : test i (lot_at T i) ≡ false → xs ≡ chosen test 0 (take (i + 1) T)
     chosen_skips failed =
-        is ∙ sym (chosen_more T i h ∙ ap (λ b. chosen test 0 (take i T) ++ cond b (lot_at T i ∷ []) []) failed ∙ append-nil (chosen test 0 (take i T)))
+        is ∙ sym (chosen_more T i h ∙ ap (λ b. chosen test 0 (take i T) ++ (if b then lot_at T i ∷ [] else [])) failed ∙ append-nil (chosen test 0 (take i T)))

@@ -1,5 +1,5 @@
 -- Every schedule runs the lots over their fixed parts.
-use Rattle.std.specs.Prelude.{◌≡◌, ℕ, zero, suc, ◌+◌, ◌<◌, ◌≤◌, true, cond, List, [], ◌∷◌, length, nat_le, nat_lt, slice_index, refl}
+use Rattle.std.specs.Prelude.{◌≡◌, ℕ, zero, suc, ◌+◌, ◌<◌, ◌≤◌, true, if◌then◌else◌, List, [], ◌∷◌, length, nat_le, nat_lt, slice_index, refl}
 use Rattle.std.proofs.Common.{inl, inr, arith}
 use Rattle.std.proofs.lemmas.Bool.{ltb-true, and_parts, cases_lt}
 use Rattle.std.proofs.lemmas.Bool.Decides.{nat_tests}
@@ -8,10 +8,10 @@ use Rattle.lots.specs.Tables.{ect, lot_at}
 use Rattle.lots.specs.declared.Lot.{Lot}
 use Rattle.rules.specs.TimeTable.{fixed, fixed_load, fixed_others, blocked}
 
-fixed_runs : (x : Lot) (s t : ℕ) → x.est ≤ s → s + x.p ≤ x.lct → fixed x t ≤ cond (spans s (s + x.p) t) x.c 0
+fixed_runs : (x : Lot) (s t : ℕ) → x.est ≤ s → s + x.p ≤ x.lct → fixed x t ≤ (if spans s (s + x.p) t then x.c else 0)
 fixed_runs x s t early late = grind (arith, nat_tests)
 
-runs_by : (x : Lot) (s t : ℕ) → x.est ≤ s → s ≤ t → t < ect x → x.c ≤ cond (spans s (s + x.p) t) x.c 0
+runs_by : (x : Lot) (s t : ℕ) → x.est ≤ s → s ≤ t → t < ect x → x.c ≤ (if spans s (s + x.p) t then x.c else 0)
 runs_by x s t early started going = grind (arith, nat_tests)
 
 module _ (t : ℕ) where

@@ -1,5 +1,5 @@
 -- Not-first loses no schedule.
-use Rattle.std.specs.Prelude.{◌≡◌, ℕ, zero, suc, ◌+◌, ◌-◌, ◌<◌, ◌≤◌, min, Bool, true, false, cond, not, ◌&&◌, List, [], ◌∷◌, ◌++◌, length, ◌==◌, nat_le, nat_lt, slice_index, slice_index_or, refl}
+use Rattle.std.specs.Prelude.{◌≡◌, ℕ, zero, suc, ◌+◌, ◌-◌, ◌<◌, ◌≤◌, min, Bool, true, false, if◌then◌else◌, not, ◌&&◌, List, [], ◌∷◌, ◌++◌, length, ◌==◌, nat_le, nat_lt, slice_index, slice_index_or, refl}
 use Rattle.std.proofs.Common.{inl, inr, sym, ap, subst, add-zero, zero-add, arith}
 use Rattle.std.specs.List.{AllByRecursion}
 use Rattle.std.proofs.ByRecursion.{All-get_or}
@@ -32,7 +32,7 @@ load_append t [] ys (s ∷ ss) us p = absurd p
 load_append t (x ∷ xs) ys [] us p = absurd p
 load_append t (x ∷ xs) ys (s ∷ ss) us p = omega (arith, load_append t xs ys ss us p.1)
 
-runs_on : (t u s p c e : ℕ) → t ≤ u → u < e → e ≤ s + p → cond (spans s (s + p) t) c 0 ≤ cond (spans s (s + p) u) c 0
+runs_on : (t u s p c e : ℕ) → t ≤ u → u < e → e ≤ s + p → (if spans s (s + p) t then c else 0) ≤ (if spans s (s + p) u then c else 0)
 runs_on t u s p c e h k l = grind (arith, nat_tests)
 
 -- lots that cannot be out by u still run at u where they ran before
@@ -49,8 +49,8 @@ module _ (test : ℕ → Lot → Bool) (t : ℕ) where
   load_beside k i (x ∷ xs) [] p h out here = absurd p
   load_beside k zero (x ∷ xs) (s ∷ ss) p h out here =
       let none = subst (λ n. test n x ≡ false) (add-zero k) out in
-      let left = ap (λ b. load t (cond b (x ∷ chosen test (suc k) xs) (chosen test (suc k) xs)) (cond b (s ∷ starts test (suc k) xs ss) (starts test (suc k) xs ss))) none in
-      let runs = ap (λ b. cond b x.c 0) here in
+      let left = ap (λ b. load t (if b then x ∷ chosen test (suc k) xs else chosen test (suc k) xs) (if b then s ∷ starts test (suc k) xs ss else starts test (suc k) xs ss)) none in
+      let runs = ap (λ b. if b then x.c else 0) here in
       omega (arith, left, runs, chosen_load test t (suc k) xs ss p.1)
   load_beside k (suc i) (x ∷ xs) (s ∷ ss) p h out here =
       let rest = load_beside (suc k) i xs ss p.1 (omega arith) (subst (λ n. test n (lot_at xs i) ≡ false) (omega arith) out) here in
@@ -110,11 +110,11 @@ module _ (C : ℕ) (T : List Lot) (ok : Lawful C T) (ss : List ℕ) (s : Schedul
   abbrev guest : Lot
   guest = run (lot_at T i).c m Ω
 
-  load_with : (v : ℕ) (b : Bool) → spans (earliest Ω) (earliest Ω + (m - earliest Ω)) v ≡ b → earliest Ω < m → load v Ω us + (cond b (lot_at T i).c 0 + 0) ≤ C
+  load_with : (v : ℕ) (b : Bool) → spans (earliest Ω) (earliest Ω + (m - earliest Ω)) v ≡ b → earliest Ω < m → load v Ω us + ((if b then (lot_at T i).c else 0) + 0) ≤ C
   load_with v true e k = omega (arith, beside v (omega (arith, span_below (earliest Ω) (earliest Ω + (m - earliest Ω)) v e)))
   load_with v false e k = omega (arith, chosen_load test v 0 T ss s.placed, s.within v)
 
-  scheduled : (b : Bool) → nat_le m (earliest Ω) ≡ b → (ws : List ℕ) × Schedule C (Ω ++ cond b [] (guest ∷ [])) ws
+  scheduled : (b : Bool) → nat_le m (earliest Ω) ≡ b → (ws : List ℕ) × Schedule C (Ω ++ (if b then [] else guest ∷ [])) ws
   scheduled true e = (us, subst (λ xs. Schedule C xs us) (sym (append-nil Ω)) (chosen_schedule test C T ss s))
   scheduled false e =
       let later = leb-false m (earliest Ω) e in (
@@ -131,7 +131,7 @@ module _ (C : ℕ) (T : List Lot) (ok : Lawful C T) (ss : List ℕ) (s : Schedul
       omega (arith, ltb-true 0 (overflow C (with_stand_in T i t)) full, overflow_of_schedulable C (with_stand_in T i t) found.0 found.1)
 
 module _ (C : ℕ) (T : List Lot) (ok : Lawful C T) (ss : List ℕ) (s : Schedule C T ss) (i : ℕ) (h : i < length T) where
-  bound_cond : (t : ℕ) (b : Bool) → (b ≡ true → overfull C (with_stand_in T i t) ≡ true) → cond b (least_ect (cut T i t)) 0 ≤ slice_index ss i
+  bound_cond : (t : ℕ) (b : Bool) → (b ≡ true → overfull C (with_stand_in T i t) ≡ true) → (if b then least_ect (cut T i t) else 0) ≤ slice_index ss i
   bound_cond t true full = elim (cases_lt (slice_index ss i) (least_ect (cut T i t))) [
     | inl early ↦ absurd (not_overfull C T ok ss s i h t early (full refl))
     | inr late ↦ late

@@ -1,5 +1,5 @@
 -- Overload finds no schedule where it is dead.
-use Rattle.std.specs.Prelude.{◌≡◌, ℕ, Bool, true, cond, ◌||◌, List, [], ◌∷◌, ◌==◌, nat_le, refl}
+use Rattle.std.specs.Prelude.{◌≡◌, ℕ, Bool, true, if◌then◌else◌, ◌||◌, List, [], ◌∷◌, ◌==◌, nat_le, refl}
 use Rattle.std.proofs.Common.{inl, inr, sym, ap, subst, ◌∙◌, arith}
 use Rattle.std.specs.List.{list_any}
 use Rattle.std.proofs.lemmas.Bool.{ltb-true, or_cases, or_left, or_right, eqb-true, eq-eqb, false≢true}
@@ -63,5 +63,5 @@ module _ (C : ℕ) (T : List Lot) where
   any_overfull (x ∷ xs) = ap (λ b. overfull C (due x.lct T) || b) (any_overfull xs)
 
 -- the distinct ends tell as much as the lots
-pub overload_by_ends : (C : ℕ) (T : List Lot) (es : List End) → DistinctEnds T es → (b d : Bool) → b ≡ some_overfull C T (end_minutes es) → b ≡ d → overload C T ≡ cond d dead (to T)
-overload_by_ends C T es is b d told e = ap (λ q. cond q dead (to T)) (sym (some_same C T (end_minutes es) (ends_of T) is.ends) ∙ sym told ∙ e)
+pub overload_by_ends : (C : ℕ) (T : List Lot) (es : List End) → DistinctEnds T es → (b d : Bool) → b ≡ some_overfull C T (end_minutes es) → b ≡ d → overload C T ≡ (if d then dead else to T)
+overload_by_ends C T es is b d told e = ap (λ q. if q then dead else to T) (sym (some_same C T (end_minutes es) (ends_of T) is.ends) ∙ sym told ∙ e)

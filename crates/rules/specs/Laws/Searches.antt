@@ -1,5 +1,5 @@
 -- Tests of the minutes below a number.
-use Rattle.std.specs.Prelude.{◌≡◌, ℕ, zero, suc, ◌<◌, ◌≤◌, Bool, true, false, cond, ◌||◌, refl}
+use Rattle.std.specs.Prelude.{◌≡◌, ℕ, zero, suc, ◌<◌, ◌≤◌, Bool, true, false, if◌then◌else◌, ◌||◌, refl}
 use Rattle.std.proofs.Common.{inl, inr, ap₂, subst, ◌∙◌, arith}
 use Rattle.std.proofs.lemmas.Bool.{cases_order, or_from, or_left, or_right, cond_both, cond-false}
 use Rattle.rules.specs.TimeTable.{some_below, after_last}
@@ -36,4 +36,4 @@ after_last_none f (suc n) h = cond-false (f n) (suc n) (after_last f n) (h n (om
 pub after_last_same : (f g : ℕ → Bool) (n : ℕ) → ((t : ℕ) → t < n → f t ≡ g t) → after_last f n ≡ after_last g n
 unfolding after_last
 after_last_same f g zero h = refl
-after_last_same f g (suc n) h = ap₂ (λ b m. cond b (suc n) m) (h n (omega arith)) (after_last_same f g n (λ t k. h t (omega arith)))
+after_last_same f g (suc n) h = ap₂ (λ b m. if b then suc n else m) (h n (omega arith)) (after_last_same f g n (λ t k. h t (omega arith)))

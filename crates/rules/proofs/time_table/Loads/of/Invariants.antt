@@ -1,4 +1,4 @@
-use Rattle.std.proofs.Common.{◌≡◌, ℕ, ◌+◌, ◌*◌, ◌<◌, ◌≤◌, min, cond, length, get_or, take}
+use Rattle.std.proofs.Common.{◌≡◌, ℕ, ◌+◌, ◌*◌, ◌<◌, ◌≤◌, min, if◌then◌else◌, length, get_or, take}
 use Rattle.lots.specs.Limits.{horizon, max_capacity, max_lots}
 use Rattle.lots.specs.Schedules.{spans}
 use Rattle.lots.specs.Tables.{ect, lst, LawfulLot}
@@ -16,5 +16,5 @@ invariant-loop-minute l = record {
   minutes : length l.by_minute ≡ horizon;
   lawful : LawfulLot max_capacity l.lot;
   few : (t : ℕ) → t < horizon → get_or l.initial.by_minute t 0 ≤ max_capacity * max_lots;
-  added : (t : ℕ) → t < horizon → get_or l.by_minute t 0 ≡ get_or l.initial.by_minute t 0 + cond (spans (lst l.lot) (min l.minute (ect l.lot)) t) l.lot.c 0;
+  added : (t : ℕ) → t < horizon → get_or l.by_minute t 0 ≡ get_or l.initial.by_minute t 0 + (if spans (lst l.lot) (min l.minute (ect l.lot)) t then l.lot.c else 0);
 }

@@ -1,6 +1,6 @@
 use Rattle.std.proofs.Common.{subst, arith}
-use Rattle.elastic.specs.Rows.{Ascending}
-use Rattle.elastic.proofs.array_row.ArrayRow.put.Goals as goal
+use Rattle.row.specs.Rows.{Ascending}
+use Rattle.row.proofs.array_row.ArrayRow.put.Goals as goal
 
 pub invariant_of-self : goal.invariant_of-self
 invariant_of-self g c = (omega arith, λ o. c.put_among-place.ensures.ascends o (c.self.invariant.1 o))

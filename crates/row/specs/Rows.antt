@@ -4,9 +4,9 @@ use Rattle.std.specs.declared.cmp.Ordering.TheVariants.{Less, Equal, Greater}
 use Rattle.std.specs.declared.cmp.Ordering.{Ordering}
 use Rattle.std.specs.List.{insert, HoldsAt, AllWithin}
 use Rattle.std.specs.Cmp.{IsTotalOrder}
-use Rattle.elastic.specs.declared.row.Place.{Place}
-use Rattle.elastic.specs.declared.row.Place.TheVariants.{Placed, Present, Full}
-use Rattle.elastic.specs.declared.row.Row.{Row}
+use Rattle.row.specs.declared.row.Place.{Place}
+use Rattle.row.specs.declared.row.Place.TheVariants.{Placed, Present, Full}
+use Rattle.row.specs.declared.row.Row.{Row}
 
 -- the cells that were lent
 abbrev pub cells_of : {E : Type 0} → Row E → List E

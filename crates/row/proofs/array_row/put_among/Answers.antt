@@ -1,7 +1,7 @@
 use Rattle.std.proofs.Common.{take, sym, subst, rules}
-use Rattle.elastic.specs.Rows.{Ascending, Seated}
-use Rattle.elastic.proofs.Rows.{take_min, same_before}
-use Rattle.elastic.proofs.array_row.put_among.Goals as goal
+use Rattle.row.specs.Rows.{Ascending, Seated}
+use Rattle.row.proofs.Rows.{take_min, same_before}
+use Rattle.row.proofs.array_row.put_among.Goals as goal
 
 pub returns-clause-seated : goal.returns-clause-seated
 returns-clause-seated g c o up =

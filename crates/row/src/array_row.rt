@@ -1,7 +1,7 @@
 // A row in an array of its own.
 ghost use Rattle.std.specs.Prelude.{◌≡◌, ◌≤◌, List, [], length, take};
 ghost use Rattle.std.specs.Cmp.{IsTotalOrder};
-ghost use Rattle.elastic.specs.Rows.{Ascending, Stored, Put, Seated};
+ghost use Rattle.row.specs.Rows.{Ascending, Stored, Put, Seated};
 
 use crate::row::{Keyed, Place, Row};
 use std::marker::Model;
@@ -11,7 +11,7 @@ use std::marker::Model;
 // be written twice.
 #[derive(Drop)]
 pub struct ArrayRow<E: Keyed, const N: usize> {
-    pub(crate) cells: [E; N],
+    pub cells: [E; N],
     len: usize,
 }
 

@@ -1,6 +1,6 @@
 use Rattle.std.proofs.Common.{refl}
-use Rattle.elastic.proofs.Rows.{seated_present, seated_full, seated_placed, stored_full, stored_placed, stored_ascends}
-use Rattle.elastic.proofs.row.Row.put.Goals as goal
+use Rattle.row.proofs.Rows.{seated_present, seated_full, seated_placed, stored_full, stored_placed, stored_ascends}
+use Rattle.row.proofs.row.Row.put.Goals as goal
 
 pub returns-in-Ok : goal.returns-in-Ok
 returns-in-Ok g c = record {

@@ -1,8 +1,8 @@
 use Rattle.std.proofs.Common.{rules, subst}
 use Rattle.std.proofs.lemmas.List.Sorted.{answers_always}
-use Rattle.elastic.specs.Rows.{Ascending, Sought}
-use Rattle.elastic.proofs.Rows.{take_min, sought}
-use Rattle.elastic.proofs.row.Row.seek.Goals as goal
+use Rattle.row.specs.Rows.{Ascending, Sought}
+use Rattle.row.proofs.Rows.{take_min, sought}
+use Rattle.row.proofs.row.Row.seek.Goals as goal
 
 pub returns-clause-sought : goal.returns-clause-sought
 returns-clause-sought g c o =
