@@ -4,7 +4,7 @@ use Rattle.std.proofs.lemmas.List.{append-nil, append_assoc, append_cancel_left}
 use Rattle.std.specs.Option.{ok_or}
 use Rattle.std.specs.Result.{IsErrAnd}
 use Rattle.console.specs.Lines.{Unread}
-use Rattle.console.specs.Piles.{pile_word, levels, max_levels, Names, Lacks, Begins}
+use Rattle.console.specs.Piles.{pile_word, levels, max_levels, Names, Lacks, BeginsWithPile}
 use Rattle.console.specs.declared.answers.Fault.{Fault}
 use Rattle.console.specs.declared.answers.Fault.TheVariants as fault
 use Rattle.console.specs.declared.piles.Pile.{Pile, Idle, Overload, TimeTable, NotFirst, House, Turned', Both'}
@@ -42,34 +42,34 @@ same_rest p q x y h = absurd (omega (arith, ap sign h))
 
 -- the text begins with the word of no pile of at most so many levels
 abbrev pub NoPile : List ℕ → ℕ → Type 0
-NoPile text most = (p : Pile) (x : List ℕ) → Begins text most p x → ⊥
+NoPile text most = (p : Pile) (x : List ℕ) → BeginsWithPile text most p x → ⊥
 
 pub no_level : (text : List ℕ) (n : ℕ) → n ≡ 0 → NoPile text n
 no_level text n none p x is = omega (arith, some_level p, is.1)
 
 -- a pile whose word begins with `turned(` is another turned
-within_turned : (text rest : List ℕ) (n : ℕ) → text ≡ codes "turned(" ++ rest → (p : Pile) (x : List ℕ) → Begins text n p x → (q : Pile) × Begins rest (n - 1) q (codes ")" ++ x)
+within_turned : (text rest : List ℕ) (n : ℕ) → text ≡ codes "turned(" ++ rest → (p : Pile) (x : List ℕ) → BeginsWithPile text n p x → (q : Pile) × BeginsWithPile rest (n - 1) q (codes ")" ++ x)
 within_turned text rest n start (Turned' a p) x is = (p, (ap (drop 7) (sym start ∙ is.0 ∙ turned_word a p x), omega (arith, is.1)))
 within_turned text rest n start p x is = absurd (omega (arith, ap sign (sym start ∙ is.0)))
 
 pub nothing_turned : (text rest : List ℕ) (n : ℕ) → text ≡ codes "turned(" ++ rest → NoPile rest (n - 1) → NoPile text n
 nothing_turned text rest n start none p x is = let w = within_turned text rest n start p x is in none w.0 _ w.1
 
-pub turned_unclosed : (text rest after : List ℕ) (n : ℕ) (q : Pile) → text ≡ codes "turned(" ++ rest → Begins rest (n - 1) q after → Lacks after (codes ")") → NoPile text n
+pub turned_unclosed : (text rest after : List ℕ) (n : ℕ) (q : Pile) → text ≡ codes "turned(" ++ rest → BeginsWithPile rest (n - 1) q after → Lacks after (codes ")") → NoPile text n
 turned_unclosed text rest after n q start within lacks p x is = let w = within_turned text rest n start p x is in lacks x (same_rest q w.0 _ _ (sym within.0 ∙ w.1.0))
 
 -- a pile whose word begins with `both(` is two others, one after the other
-within_both : (text rest : List ℕ) (n : ℕ) → text ≡ codes "both(" ++ rest → (p : Pile) (x : List ℕ) → Begins text n p x
-    → (q r : Pile) × Begins rest (n - 1) q (codes "," ++ (pile_word r ++ (codes ")" ++ x))) × (levels r ≤ n - 1)
+within_both : (text rest : List ℕ) (n : ℕ) → text ≡ codes "both(" ++ rest → (p : Pile) (x : List ℕ) → BeginsWithPile text n p x
+    → (q r : Pile) × BeginsWithPile rest (n - 1) q (codes "," ++ (pile_word r ++ (codes ")" ++ x))) × (levels r ≤ n - 1)
 within_both text rest n start (Both' a p b q) x is = (p, q, (ap (drop 5) (sym start ∙ is.0 ∙ both_word a b p q x), omega (arith, is.1)), omega (arith, is.1))
 within_both text rest n start p x is = absurd (omega (arith, ap sign (sym start ∙ is.0)))
 
 pub no_first : (text rest : List ℕ) (n : ℕ) → text ≡ codes "both(" ++ rest → NoPile rest (n - 1) → NoPile text n
 no_first text rest n start none p x is = let w = within_both text rest n start p x is in none w.0 _ w.2
 
-module _ (text rest after : List ℕ) (n : ℕ) (q : Pile) (start : text ≡ codes "both(" ++ rest) (first : Begins rest (n - 1) q after) where
+module _ (text rest after : List ℕ) (n : ℕ) (q : Pile) (start : text ≡ codes "both(" ++ rest) (first : BeginsWithPile rest (n - 1) q after) where
   -- what follows the first of two piles
-  second_too : (p : Pile) (x : List ℕ) → Begins text n p x → (r : Pile) × (after ≡ codes "," ++ (pile_word r ++ (codes ")" ++ x))) × (levels r ≤ n - 1)
+  second_too : (p : Pile) (x : List ℕ) → BeginsWithPile text n p x → (r : Pile) × (after ≡ codes "," ++ (pile_word r ++ (codes ")" ++ x))) × (levels r ≤ n - 1)
   second_too p x is = let w = within_both text rest n start p x is in (w.1, same_rest q w.0 _ _ (sym first.0 ∙ w.2.0), w.3)
 
   pub both_uncut : Lacks after (codes ",") → NoPile text n
@@ -78,7 +78,7 @@ module _ (text rest after : List ℕ) (n : ℕ) (q : Pile) (start : text ≡ cod
   pub no_second : (other : List ℕ) → after ≡ codes "," ++ other → NoPile other (n - 1) → NoPile text n
   no_second other cut none p x is = let w = second_too p x is in none w.0 _ (ap (drop 1) (sym cut ∙ w.1), w.2)
 
-  pub both_unclosed : (other end : List ℕ) (r : Pile) → after ≡ codes "," ++ other → Begins other (n - 1) r end → Lacks end (codes ")") → NoPile text n
+  pub both_unclosed : (other end : List ℕ) (r : Pile) → after ≡ codes "," ++ other → BeginsWithPile other (n - 1) r end → Lacks end (codes ")") → NoPile text n
   both_unclosed other end r cut second lacks p x is =
       let w = second_too p x is in
       lacks x (same_rest r w.0 _ _ (sym second.0 ∙ ap (drop 1) (sym cut ∙ w.1)))
@@ -100,13 +100,13 @@ no_name text i o t n h (Turned' a p) x is = omega (arith, some_level p, is.1)
 no_name text i o t n h (Both' a p b q) x is = omega (arith, some_level p, is.1)
 
 -- the whole word is the text, and what follows is empty
-whole : (w : List ℕ) (p : Pile) → Names w p → Begins w max_levels p []
+whole : (w : List ℕ) (p : Pile) → Names w p → BeginsWithPile w max_levels p []
 whole w p named = (named.0 ∙ sym (append-nil (pile_word p)), named.1)
 
 pub names_none : (w : List ℕ) → NoPile w max_levels → (p : Pile) → Names w p → ⊥
 names_none w none p named = none p [] (whole w p named)
 
-pub text_left : (w rest : List ℕ) (n : ℕ) (q : Pile) → Begins w n q rest → rest ≢ [] → (p : Pile) → Names w p → ⊥
+pub text_left : (w rest : List ℕ) (n : ℕ) (q : Pile) → BeginsWithPile w n q rest → rest ≢ [] → (p : Pile) → Names w p → ⊥
 text_left w rest n q begins left p named = left (same_rest q p rest [] (sym begins.0 ∙ (whole w p named).0))
 
 -- a fault that is handed on, where what it says of one text says as much of another

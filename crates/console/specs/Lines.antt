@@ -4,15 +4,14 @@ use Rattle.std.specs.Global.{Vec}
 use Rattle.std.specs.List.{AllZip}
 use Rattle.lots.specs.declared.Lot.{Lot}
 use Rattle.lots.specs.declared.Refusal.{Refusal}
-use Rattle.elastic.specs.Overflow as elastic
+use Rattle.elastic.specs.Overflow.{OverflowAnswered}
 use Rattle.rule.specs.Meanings.{Applied}
 use Rattle.rule.specs.declared.Verdict.{Verdict}
-use Rattle.lots.specs.Tables.{blank}
+use Rattle.lots.specs.Tables.{blank, Table}
 use Rattle.lots.specs.Texts.{space}
 use Rattle.tree.specs.Answer.{Solved}
 use Rattle.tree.specs.declared.Search.{Search}
 use Rattle.plan.specs.Calls.{Opened, Admitted, Narrowed, Tightened}
-use Rattle.plan.specs.Tables.{Table}
 use Rattle.console.specs.Piles.{pile_meaning, Names}
 use Rattle.console.specs.declared.piles.Pile.{Pile}
 use Rattle.console.specs.declared.answers.Answer.{Answer}
@@ -95,7 +94,7 @@ ToldSearch n us (Err refusal) a = a ≡ answer.Refused refusal
 abbrev pub Answers : Name → List (List ℕ) → Table → Table → Answer → Type 0
 Answers overflow_call words P Q a =
     (C : ℕ) × (T : List Lot) × TableForm words C T
-    × (r : Result (ℕ × ℕ) Refusal) × elastic.Answered C T r × (Q ≡ P) × (a ≡ told (λ n. answer.Overflow n.0 n.1) r)
+    × (r : Result (ℕ × ℕ) Refusal) × OverflowAnswered C T r × (Q ≡ P) × (a ≡ told (λ n. answer.Overflow n.0 n.1) r)
 Answers rule_call words P Q a =
     (p : Pile) × (C : ℕ) × (T : List Lot) × RuleForm words p C T
     × (lots : Vec Lot) × (r : Result Verdict Refusal) × Applied (pile_meaning p) C T (vec_items lots) r × (Q ≡ P) × (a ≡ told (λ v. answer.Applied v lots) r)

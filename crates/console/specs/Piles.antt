@@ -48,5 +48,5 @@ abbrev pub Lacks : List ℕ → List ℕ → Type 0
 Lacks text w = (x : List ℕ) → text ≢ w ++ x
 
 -- the text begins with the word of a pile of at most so many levels, and goes on with the rest
-abbrev pub Begins : List ℕ → ℕ → Pile → List ℕ → Type 0
-Begins text most p rest = (text ≡ pile_word p ++ rest) × (levels p ≤ most)
+abbrev pub BeginsWithPile : List ℕ → ℕ → Pile → List ℕ → Type 0
+BeginsWithPile text most p rest = (text ≡ pile_word p ++ rest) × (levels p ≤ most)

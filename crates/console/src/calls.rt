@@ -1,7 +1,7 @@
 // Answers a line: reads the call that it writes, makes the call, and says what came of it.
 ghost use Rattle.std.specs.Prelude.{◌≡◌, IfOk, IfErr, MatchResult};
 ghost use Rattle.lots.specs.Texts.{space};
-ghost use Rattle.plan.specs.Tables.{Table};
+ghost use Rattle.lots.specs.Tables.{Table};
 ghost use Rattle.console.specs.Lines.{overflow_call, rule_call, open_call, admit_call, narrow_call, tighten_call, solve_call, windows_call, Unread, SolveForm, Known, Asks, Answers, Made, Comes, Answered};
 ghost use Rattle.console.specs.Syntax.{pieces};
 

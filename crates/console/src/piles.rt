@@ -1,6 +1,6 @@
 // The piles that a word can name.
 ghost use Rattle.std.specs.Prelude.{◌≡◌, ℕ, List, ◌++◌, MatchOption, MatchResult};
-ghost use Rattle.console.specs.Piles.{pile_meaning, Names, Lacks, Begins};
+ghost use Rattle.console.specs.Piles.{pile_meaning, Names, Lacks, BeginsWithPile};
 ghost use Rattle.console.specs.Lines.{Unread};
 ghost use Rattle.console.specs.Laws.PileSound.{pile_sound};
 
@@ -39,7 +39,7 @@ impl Pile {
 
 // The pile whose word the text begins with, and the rest of the text.
 fn front<'a>(heap: Global, levels: u16, text: &'a str) -> Result<(Pile, &'a str), Fault>
-    ensures answer { MatchResult result (λ r. Begins text.now levels r.0 r.1.now) (λ f. Unread f ((p : Pile) (x : List ℕ) → Begins text.now levels p x → ⊥)) }
+    ensures answer { MatchResult result (λ r. BeginsWithPile text.now levels r.0 r.1.now) (λ f. Unread f ((p : Pile) (x : List ℕ) → BeginsWithPile text.now levels p x → ⊥)) }
 {
     if levels == 0 {
         return Err(Fault::Unknown);
@@ -69,7 +69,7 @@ fn past<'a>(mark: &str, text: &'a str) -> Result<&'a str, Fault>
 
 // The same of a pile that stands alone. No name begins another, so the order does not matter.
 fn plain<'a>(text: &'a str) -> Option<(Pile, &'a str)>
-    ensures answer { MatchOption result ((p : Pile) (x : List ℕ) → Begins text.now 1 p x → ⊥) (λ r. Begins text.now 1 r.0 r.1.now) }
+    ensures answer { MatchOption result ((p : Pile) (x : List ℕ) → BeginsWithPile text.now 1 p x → ⊥) (λ r. BeginsWithPile text.now 1 r.0 r.1.now) }
 {
     if let Some(rest) = text.strip_prefix("idle") {
         Some((Pile::Idle, rest))

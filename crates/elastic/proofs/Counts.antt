@@ -37,13 +37,13 @@ distinct_between (t ∷ ts) us u =
     elim (cases_eq t u) [
       | inl e ↦
           let now = ap (λ b. one (b || has t (ts ++ us))) (eq-eqb t u e) in
-          let then = ap (λ b. one (b || has u (ts ++ us))) (eq-eqb u t (sym e)) in
+          let swapped = ap (λ b. one (b || has u (ts ++ us))) (eq-eqb u t (sym e)) in
           let same = ap (λ v. one (has v (ts ++ us))) e in
-          omega (arith, here, now, then, same, ih)
+          omega (arith, here, now, swapped, same, ih)
       | inr ne ↦
           let now = ap (λ b. one (b || has t (ts ++ us))) (ne_eqb t u ne) in
-          let then = ap (λ b. one (b || has u (ts ++ us))) (ne_eqb u t (λ e. ne (sym e))) in
-          omega (arith, here, now, then, ih)
+          let swapped = ap (λ b. one (b || has u (ts ++ us))) (ne_eqb u t (λ e. ne (sym e))) in
+          omega (arith, here, now, swapped, ih)
     ]
 
 pub at_most_one : (b : Bool) → cond {A = ℕ} b 0 1 ≤ 1

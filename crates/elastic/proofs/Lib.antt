@@ -5,4 +5,4 @@ pub mod Profiles
 pub mod Minutes
 pub mod Soundness
 pub mod Walks
-pub mod Parts
+pub mod Marked

@@ -7,7 +7,7 @@ use Rattle.std.proofs.lemmas.Bool.Decides.{nat_tests}
 use Rattle.lots.specs.Schedules.{spans}
 use Rattle.lots.specs.Tables.{ect, Fits}
 use Rattle.lots.specs.declared.Lot.{Lot}
-use Rattle.elastic.specs.Parts.{run, kept}
+use Rattle.elastic.specs.Marked.{stand_in_lot, stand_in}
 use Rattle.elastic.specs.Profile.{earliest, latest, available, creq, ov_before, overflow}
 use Rattle.elastic.proofs.Profiles.{available_between, creq_between}
 
@@ -89,17 +89,17 @@ module _ (C c m : ℕ) (fits : c ≤ C) (Ω : List Lot) where
   ]
 
   module _ (later : earliest Ω < m) where
-    open_run : (t : ℕ) → available (Ω ++ (run c m Ω ∷ [])) t ≡ available Ω t + (if spans (earliest Ω) m t then c else 0)
-    open_run t = available_between t Ω [] (run c m Ω) ∙ ap (λ xs. available xs t + (if spans (earliest Ω) m t then c else 0)) (append-nil Ω)
+    open_run : (t : ℕ) → available (Ω ++ (stand_in_lot c m Ω ∷ [])) t ≡ available Ω t + (if spans (earliest Ω) m t then c else 0)
+    open_run t = available_between t Ω [] (stand_in_lot c m Ω) ∙ ap (λ xs. available xs t + (if spans (earliest Ω) m t then c else 0)) (append-nil Ω)
 
-    due_run : (t : ℕ) → creq (Ω ++ (run c m Ω ∷ [])) t ≡ creq Ω t + (if spans (earliest Ω) m t then c else 0)
+    due_run : (t : ℕ) → creq (Ω ++ (stand_in_lot c m Ω ∷ [])) t ≡ creq Ω t + (if spans (earliest Ω) m t then c else 0)
     due_run t =
         let end : earliest Ω + (m - earliest Ω) ≡ m = omega arith in
-        creq_between t Ω [] (run c m Ω)
-        ∙ ap (λ xs. creq xs t + (if spans (earliest Ω) (ect (run c m Ω)) t then c else 0)) (append-nil Ω)
+        creq_between t Ω [] (stand_in_lot c m Ω)
+        ∙ ap (λ xs. creq xs t + (if spans (earliest Ω) (ect (stand_in_lot c m Ω)) t then c else 0)) (append-nil Ω)
         ∙ ap (λ n. creq Ω t + (if spans (earliest Ω) n t then c else 0)) end
 
-    some_kept : (t : ℕ) → rest (λ u. C) (Ω ++ (run c m Ω ∷ [])) t ≡ rest (usable C c m) Ω t
+    some_kept : (t : ℕ) → rest (λ u. C) (Ω ++ (stand_in_lot c m Ω ∷ [])) t ≡ rest (usable C c m) Ω t
     some_kept zero = refl
     some_kept (suc t) = elim (cases_lt t (earliest Ω)) [
       | inl h ↦
@@ -118,15 +118,15 @@ module _ (C c m : ℕ) (fits : c ≤ C) (Ω : List Lot) where
       ]
     ]
 
-  kept_by : Fits Ω → (b : Bool) → leb m (earliest Ω) ≡ b → overflow C (Ω ++ (if b then [] else run c m Ω ∷ [])) ≡ rest (usable C c m) Ω (latest Ω)
+  kept_by : Fits Ω → (b : Bool) → leb m (earliest Ω) ≡ b → overflow C (Ω ++ (if b then [] else stand_in_lot c m Ω ∷ [])) ≡ rest (usable C c m) Ω (latest Ω)
   kept_by h true e =
       ap (overflow C) (append-nil Ω) ∙ overflow_rest C Ω h ∙ none_kept (leb-true m (earliest Ω) e) (latest Ω)
   kept_by h false e =
       let later = leb-false m (earliest Ω) e in
-      let ends : Fits (Ω ++ (run c m Ω ∷ [])) = All-append (λ x. ect x ≤ x.lct) Ω (run c m Ω ∷ []) h (omega arith, tt) in
-      let most = latest (Ω ++ (run c m Ω ∷ [])) in
-      let past : most ≡ latest Ω + (most - latest Ω) = omega (arith, latest_push Ω (run c m Ω)) in
-      overflow_rest C (Ω ++ (run c m Ω ∷ [])) ends ∙ some_kept later most ∙ ap (rest (usable C c m) Ω) past ∙ rest_late (usable C c m) Ω h (most - latest Ω)
+      let ends : Fits (Ω ++ (stand_in_lot c m Ω ∷ [])) = All-append (λ x. ect x ≤ x.lct) Ω (stand_in_lot c m Ω ∷ []) h (omega arith, tt) in
+      let most = latest (Ω ++ (stand_in_lot c m Ω ∷ [])) in
+      let past : most ≡ latest Ω + (most - latest Ω) = omega (arith, latest_push Ω (stand_in_lot c m Ω)) in
+      overflow_rest C (Ω ++ (stand_in_lot c m Ω ∷ [])) ends ∙ some_kept later most ∙ ap (rest (usable C c m) Ω) past ∙ rest_late (usable C c m) Ω h (most - latest Ω)
 
-  pub overflow_kept : Fits Ω → overflow C (Ω ++ kept c m Ω) ≡ rest (usable C c m) Ω (latest Ω)
+  pub overflow_kept : Fits Ω → overflow C (Ω ++ stand_in c m Ω) ≡ rest (usable C c m) Ω (latest Ω)
   overflow_kept h = kept_by h (leb m (earliest Ω)) refl

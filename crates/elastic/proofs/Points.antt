@@ -9,7 +9,7 @@ use Rattle.std.proofs.ByRecursion.{All-weaker, All-append, All-take, All-drop, A
 use Rattle.std.proofs.lemmas.List.{map-set, set-get_or, take-append-drop, get_or-set_same, get_or-set_other, get_or-map, get_or_default, get_or-take, length-set, length-take}
 use Rattle.std.proofs.lemmas.Bool.{cases_eq}
 use Rattle.std.specs.Ordering.{nat_cmp}
-use Rattle.elastic.specs.Points.{upto, point_at, altered, Small, minutes_of, Rising, Entered}
+use Rattle.elastic.specs.Points.{upto, point_at, changed_point, Small, minutes_of, Rising, Entered}
 use Rattle.elastic.specs.Profile.{has}
 use Rattle.row.specs.Rows.{Stands, Put, Seated}
 use Rattle.elastic.specs.declared.profile.Point.{Point}
@@ -51,7 +51,7 @@ weaker_small a b l p s = record {
   required_high = omega (arith, ints);
 }
 
-small_altered : (a b : ℕ) (p e : Point) → Small a p → Small b e → Small (a + b) (altered p e)
+small_altered : (a b : ℕ) (p e : Point) → Small a p → Small b e → Small (a + b) (changed_point p e)
 small_altered a b p e s t = record {
   available_low = omega (arith, ints);
   available_high = omega (arith, ints);
@@ -94,7 +94,7 @@ module _ (ps : List Point) (e : Point) (i : ℕ) where
 
   module _ (at : Stands nat_cmp_total minute e.minute ps i) (up : Rising ps) where
     abbrev new : Point
-    new = altered (point_at ps i) e
+    new = changed_point (point_at ps i) e
 
     same_minute : (d : Point) → (get_or ps i d).minute ≡ e.minute
     same_minute = key_stands minute ps e.minute i at
@@ -128,19 +128,19 @@ module _ (most : ℕ) (ps ps' : List Point) (e : Point) (i : ℕ) where
     pub small_there : (b : ℕ) → AllByRecursion (Small b) ps → Small b (point_at ps' i)
     small_there b s = subst (λ qs. Small b (point_at qs i)) (sym put.1) (All-get_or (Small b) ps i _ put.0 s)
 
-    pub entered_by_alter : Seated nat_cmp_total minute e ps (Present i) → Rising ps → (qs : List Point) → qs ≡ set ps' i (altered (point_at ps' i) e) → Entered ps e qs
+    pub entered_by_alter : Seated nat_cmp_total minute e ps (Present i) → Rising ps → (qs : List Point) → qs ≡ set ps' i (changed_point (point_at ps' i) e) → Entered ps e qs
     entered_by_alter seated up qs is =
-        subst (Entered ps e) (sym (is ∙ ap (λ rs. set rs i (altered (point_at rs i) e)) put.1)) (entered_present ps e i seated up)
+        subst (Entered ps e) (sym (is ∙ ap (λ rs. set rs i (changed_point (point_at rs i) e)) put.1)) (entered_present ps e i seated up)
 
 -- an alteration among the first len of the points
 module _ (points : List Point) (len i : ℕ) (e : Point) (h : i < length (take len points)) where
   abbrev there : Point
   there = point_at (take len points) i
 
-  pub taken_altered : take len (set points i (altered (point_at points i) e)) ≡ set (take len points) i (altered there e)
+  pub taken_altered : take len (set points i (changed_point (point_at points i) e)) ≡ set (take len points) i (changed_point there e)
   taken_altered =
       let within : i < len = omega (arith, h, length-take len points) in
-      take-set-lt len points i _ within ∙ ap (λ p. set (take len points) i (altered p e)) (sym (get_or-take len points i _ within))
+      take-set-lt len points i _ within ∙ ap (λ p. set (take len points) i (changed_point p e)) (sym (get_or-take len points i _ within))
 
-  pub rising_altered : Rising (take len points) → Rising (take len (set points i (altered (point_at points i) e)))
-  rising_altered up = subst Rising (sym taken_altered) (rising_set (take len points) i (altered there e) refl h up)
+  pub rising_altered : Rising (take len points) → Rising (take len (set points i (changed_point (point_at points i) e)))
+  rising_altered up = subst Rising (sym taken_altered) (rising_set (take len points) i (changed_point there e) refl h up)

@@ -11,7 +11,7 @@ use Rattle.lots.specs.Limits.{horizon, max_capacity, max_lots}
 use Rattle.lots.specs.Schedules.{spans}
 use Rattle.lots.specs.Tables.{ect, LawfulLot, Lawful}
 use Rattle.lots.specs.declared.Lot.{Lot}
-use Rattle.elastic.specs.Parts.{kept}
+use Rattle.elastic.specs.Marked.{stand_in}
 use Rattle.elastic.specs.Points.{minutes_of, no_point, point_at, Rising, upto, Profiles}
 use Rattle.elastic.specs.Profile as profile
 use Rattle.elastic.specs.Profile.{latest, creq, minutes, has, overflow}
@@ -229,7 +229,7 @@ module _ (U : ℕ → ℕ) (Ω : List Lot) (ok : Lawful max_capacity Ω) where
 
 -- beside a run that keeps c of C trays until u
 module _ (C c u : ℕ) (fits : c ≤ C) (Ω : List Lot) (ok : Lawful max_capacity Ω) (m a r l : ℕ) where
-  pub walked : (ps : List Point) (i : ℕ) → length ps ≤ i → Walks (usable C c u) Ω m a r l (drop i ps) → l ≡ overflow C (Ω ++ kept c u Ω)
+  pub walked : (ps : List Point) (i : ℕ) → length ps ≤ i → Walks (usable C c u) Ω m a r l (drop i ps) → l ≡ overflow C (Ω ++ stand_in c u Ω)
   walked ps i h w =
       let ends = All-weaker _ _ (λ (x : Lot) (f : LawfulLot max_capacity x). f.has_time) Ω ok.each in
       walks_done (usable C c u) Ω ok m a r l ps i h w ∙ sym (overflow_kept C c u fits Ω ends)

@@ -8,9 +8,9 @@ use Rattle.lots.specs.declared.Refusal.TheVariants.{Unlawful}
 use Rattle.elastic.specs.Profile.{overflow, points, points_of_a_lot}
 
 -- the overflow and the number of points of a lawful table, and a refusal of any other
-abbrev pub Answered : ℕ → List Lot → Result (ℕ × ℕ) Refusal → Type 0
-Answered C Ω (Ok (left, count)) = Lawful C Ω × (left ≡ overflow C Ω) × (count ≡ points Ω)
-Answered C Ω (Err e) = (Lawful C Ω → ⊥) × (e ≡ Unlawful)
+abbrev pub OverflowAnswered : ℕ → List Lot → Result (ℕ × ℕ) Refusal → Type 0
+OverflowAnswered C Ω (Ok (left, count)) = Lawful C Ω × (left ≡ overflow C Ω) × (count ≡ points Ω)
+OverflowAnswered C Ω (Err e) = (Lawful C Ω → ⊥) × (e ≡ Unlawful)
 
 -- there are no more points than the lots can bring
 abbrev pub FewPoints : List Lot → Result (ℕ × ℕ) Refusal → Type 0

@@ -46,8 +46,8 @@ abbrev pub point_at : List Point → ℕ → Point
 point_at ps i = slice_index_or ps i no_point
 
 -- the point p with the changes of e added to its own
-abbrev pub altered : Point → Point → Point
-altered p e = record { minute = p.minute; available = p.available +ℤ e.available; required = p.required +ℤ e.required }
+abbrev pub changed_point : Point → Point → Point
+changed_point p e = record p { available = p.available +ℤ e.available; required = p.required +ℤ e.required }
 
 -- qs are the points ps with the changes of e entered at its minute
 pub record Entered (ps : List Point) (e : Point) (qs : List Point) : Type 0 where

@@ -2,7 +2,7 @@
 #![tactic(auto)]
 
 ghost use Rattle.std.specs.Prelude.{Ok};
-ghost use Rattle.elastic.specs.Overflow.{Answered, FewPoints, NoneIfSchedulable};
+ghost use Rattle.elastic.specs.Overflow.{OverflowAnswered, FewPoints, NoneIfSchedulable};
 
 use lots::{Lot, Refusal, Table};
 
@@ -12,7 +12,7 @@ pub use profile::Profile;
 
 // The work that is left over at the latest lct of a table, and the number of points of its profile: a pair, which callers take apart.
 pub fn overflow_of(table: Table<'_>) -> (u32, usize)
-    ensures answer { Answered table.entry.capacity table.entry.lots.now (Ok result) }
+    ensures answer { OverflowAnswered table.entry.capacity table.entry.lots.now (Ok result) }
     ensures points { FewPoints table.entry.lots.now (Ok result) }
     ensures none_if_schedulable { NoneIfSchedulable table.entry.capacity table.entry.lots.now (Ok result) }
 {
@@ -21,7 +21,7 @@ pub fn overflow_of(table: Table<'_>) -> (u32, usize)
 
 // The overflow and the number of points of any lots and capacity, apart, since it refuses those that are no lawful table.
 pub fn overflow(capacity: u16, lots: &[Lot]) -> Result<(u32, usize), Refusal>
-    ensures answer { Answered capacity lots.now result }
+    ensures answer { OverflowAnswered capacity lots.now result }
     ensures points { FewPoints lots.now result }
     ensures none_if_schedulable { NoneIfSchedulable capacity lots.now result }
 {

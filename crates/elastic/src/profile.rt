@@ -4,9 +4,9 @@ ghost use Rattle.std.specs.List.{AllByRecursion};
 ghost use Rattle.lots.specs.Limits.{horizon, max_capacity, max_lots};
 ghost use Rattle.lots.specs.Tables.{lot_at, LawfulLot, Lawful};
 ghost use Rattle.lots.specs.declared.Lot.{Lot};
-ghost use Rattle.elastic.specs.Points.{at_est, at_ect, at_lct, Small, Entered, Profiles, point_at, altered, max_points};
+ghost use Rattle.elastic.specs.Points.{at_est, at_ect, at_lct, Small, Entered, Profiles, point_at, changed_point, max_points};
 ghost use Rattle.elastic.specs.Profile.{overflow as left_over, points as points_of};
-ghost use Rattle.elastic.specs.Parts.{those, kept};
+ghost use Rattle.elastic.specs.Marked.{marked_lots, stand_in};
 ghost use Rattle.std.proofs.Props.{props};
 
 use lots::{Lot, MAX_LOTS, Table};
@@ -64,7 +64,7 @@ impl Point {
     // Adds the two changes of another point to those of this one.
     fn add(&mut self, change: Point)
         requires small { (Small (max_capacity * max_points) self.old) × (Small max_capacity change) }
-        ensures after { self.new ≡ altered self.old change }
+        ensures after { self.new ≡ changed_point self.old change }
     {
         self.available += change.available;
         self.required += change.required;
@@ -96,7 +96,7 @@ impl Points {
         requires few { length self.old.row ≤ max_points }
         requires small { Small (max_capacity * max_points) (point_at self.old.row i) }
         requires small_change { Small max_capacity change }
-        ensures after { self.new.row ≡ slice_set self.old.row i (altered (point_at self.old.row i) change) }
+        ensures after { self.new.row ≡ slice_set self.old.row i (changed_point (point_at self.old.row i) change) }
     {
         let row = &mut self.row;
         let point = &mut row.cells[i];
@@ -136,7 +136,7 @@ pub struct Profile<'a> {
     added: [bool; MAX_LOTS],
     points: Points,
     // After `by`: this has at most one proof, so it is no part of what tells two profiles apart.
-    ghost profiles: { Profiles points.row (those added table.lots.now) } by { Prim.hlevel props },
+    ghost profiles: { Profiles points.row (marked_lots added table.lots.now) } by { Prim.hlevel props },
 }
 
 impl<'a> Profile<'a> {
@@ -157,7 +157,7 @@ impl<'a> Profile<'a> {
     // The profile of all lots.
     pub fn of(table: Table<'a>) -> Profile<'a>
         ensures table { result.table ≡ table.entry }
-        ensures all { those result.added table.entry.lots.now ≡ table.entry.lots.now }
+        ensures all { marked_lots result.added table.entry.lots.now ≡ table.entry.lots.now }
     {
         let mut profile = Profile::new(table);
         for number in 0..table.lots.len() {
@@ -187,8 +187,8 @@ impl<'a> Profile<'a> {
 
     // What is left over at the last point, and the number of points.
     pub fn overflow(&self) -> (u32, usize)
-        ensures left { result.0 ≡ left_over self.now.table.capacity (those self.now.added self.now.table.lots.now) }
-        ensures points { result.1 ≡ points_of (those self.now.added self.now.table.lots.now) }
+        ensures left { result.0 ≡ left_over self.now.table.capacity (marked_lots self.now.added self.now.table.lots.now) }
+        ensures points { result.1 ≡ points_of (marked_lots self.now.added self.now.table.lots.now) }
     {
         let points = self.points.row.as_slice();
         (walk(points, self.table.capacity, 0, 0), points.len())
@@ -197,8 +197,8 @@ impl<'a> Profile<'a> {
     // The same beside a run that keeps the trays of the lot of a number from the first point on until a minute. The run
     // has no points.
     pub fn overflow_beside(&self, number: usize, until: u16) -> (u32, usize)
-        ensures left { let some = those self.now.added self.now.table.lots.now in result.0 ≡ left_over self.now.table.capacity (some ++ kept (lot_at self.now.table.lots.now number).c until some) }
-        ensures points { result.1 ≡ points_of (those self.now.added self.now.table.lots.now) }
+        ensures left { let some = marked_lots self.now.added self.now.table.lots.now in result.0 ≡ left_over self.now.table.capacity (some ++ stand_in (lot_at self.now.table.lots.now number).c until some) }
+        ensures points { result.1 ≡ points_of (marked_lots self.now.added self.now.table.lots.now) }
     {
         let points = self.points.row.as_slice();
         let left = walk(points, self.table.capacity, self.trays(number), until);
@@ -211,7 +211,7 @@ impl<'a> Profile<'a> {
 fn walk(points: &[Point], capacity: u16, trays: u16, until: u16) -> u32
     requires profile { (Ω : List Lot) × Lawful max_capacity Ω × Profiles points.now Ω }
     requires fits { trays ≤ capacity }
-    ensures answer { (Ω : List Lot) → Lawful max_capacity Ω → Profiles points.now Ω → result ≡ left_over capacity (Ω ++ kept trays until Ω) }
+    ensures answer { (Ω : List Lot) → Lawful max_capacity Ω → Profiles points.now Ω → result ≡ left_over capacity (Ω ++ stand_in trays until Ω) }
 {
     let mut left = 0;
     let mut minute = 0;

@@ -38,3 +38,8 @@ pub record Lawful (C : ℕ) (T : List Lot) : Type 0 where
   pub few_trays : C ≤ max_capacity
   pub few_lots : length T ≤ max_lots
   pub each : AllByRecursion (LawfulLot C) T
+
+-- a capacity and lots as one value, lawful or not
+pub record Table : Type 0 where
+  pub capacity : ℕ
+  pub lots : List Lot

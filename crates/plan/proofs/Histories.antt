@@ -7,11 +7,11 @@ use Rattle.rule.specs.Meanings.{Meaning, Sound}
 use Rattle.rule.specs.declared.Verdict.{Verdict}
 use Rattle.tree.specs.Answer.{Solved}
 use Rattle.tree.specs.declared.Search.{Search}
-use Rattle.plan.specs.Tables.{Table}
+use Rattle.lots.specs.Tables.{Table}
 use Rattle.lots.specs.Checks.{Passed}
 use Rattle.plan.specs.Calls.{open_checks, Opened, Admitted, Narrowed, Tightened}
 use Rattle.plan.specs.Book.{opening, admitting, narrowing, tightening, solving, Entry, accepted, refused, noted, book}
-use Rattle.plan.specs.History.{Step, History, new, opened, later, Begins, Follows}
+use Rattle.plan.specs.History.{Step, History, new, opened, later, BeginsHistory, Follows}
 use Rattle.plan.specs.Promise.{SearchAnswersTo, Promise}
 use Rattle.plan.proofs.Tallies.{Tally, tally_empty, tally_opened, tally_step, tally_schedules, tally_answers}
 
@@ -33,7 +33,7 @@ pub open_follows : (C : ℕ) (T U : Table) (r : Result (Unit {0}) Refusal) → O
 open_follows C T U (Ok u) x = follows (accepted (opening C)) T U x
 open_follows C T U (Err e) x = follows (refused (opening C)) T U (e, x)
 
-pub open_begins : (C : ℕ) (T U : Table) (r : Result (Unit {0}) Refusal) → Opened C T U r → Begins C r U
+pub open_begins : (C : ℕ) (T U : Table) (r : Result (Unit {0}) Refusal) → Opened C T U r → BeginsHistory C r U
 open_begins C T U (Ok u) x = opened T C x
 open_begins C T U (Err e) x = tt
 

@@ -4,7 +4,7 @@ use Rattle.lots.specs.declared.Lot.{Lot}
 use Rattle.rule.specs.Meanings.{Meaning}
 use Rattle.rule.specs.declared.Verdict.{Verdict}
 use Rattle.rule.proofs.Chains.{settled_one}
-use Rattle.plan.specs.Tables.{Table}
+use Rattle.lots.specs.Tables.{Table}
 use Rattle.plan.specs.Calls.{Opened, Admitted, Narrowed, Tightened}
 
 pub opened_one : (C : ℕ) (T U V : Table) → Opened C T U (Ok tt) → Opened C T V (Ok tt) → U ≡ V

@@ -1,13 +1,14 @@
 -- The plan's step and the book's entry keep the two in tally.
 use Rattle.std.proofs.Common.{◌≡◌, ℕ, ◌<◌, List, length, sym, refl, ◌∙◌, subst, arith}
 use Rattle.std.proofs.lemmas.List.Elements.{length_all_zip, AllZip-push}
-use Rattle.lots.specs.Schedules.{Schedule}
+use Rattle.lots.specs.Schedules.{Schedule, BestSchedule}
 use Rattle.lots.specs.declared.Lot.{Lot}
-use Rattle.rule.specs.Meanings.{SameWork, Keeps}
+use Rattle.rule.specs.Meanings.{SameWork, Keeps, Hopeless}
 use Rattle.rule.proofs.Chains.{Kept, kept_back, settled_kept}
 use Rattle.rule.proofs.Schedules.{end_same}
 use Rattle.rule.specs.Laws.Tables.{same_work_sym, same_work_trans}
-use Rattle.plan.specs.Tables.{Table, LawfulTable, ScheduleOf, SameSchedules, NoSchedule, BestOf, empty, with_lot, with_between}
+use Rattle.plan.specs.Tables.{SameSchedules, empty, with_lot, with_lot_between}
+use Rattle.lots.specs.Tables.{Lawful, Table}
 use Rattle.lots.specs.Checks.{Passed}
 use Rattle.plan.specs.Calls.{open_checks, admit_checks, narrow_checks}
 use Rattle.plan.specs.Book.{opening, admitting, narrowing, tightening, solving, Entry, accepted, refused, enter}
@@ -24,7 +25,7 @@ pub record Tally (B T : Table) : Type 0 where
   pub work : SameWork B.lots T.lots
   pub there : Keeps T.capacity B.lots T.lots
   pub back : Keeps T.capacity T.lots B.lots
-  pub lawful : LawfulTable T
+  pub lawful : Lawful T.capacity T.lots
 
 pub tally_empty : (C : ℕ) → Passed (open_checks C) → Tally (empty C) (empty C)
 tally_empty C k = record { trays = refl; work = tt; there = λ ss s. s; back = λ ss s. s; lawful = empty_lawful C k }
@@ -38,7 +39,7 @@ tally_with_lot x B T k h = record {
   lawful = with_lot_lawful x T h.lawful k;
 }
 
-tally_between : (i a b : ℕ) (B T : Table) → Passed (narrow_checks i a b T.lots) → Tally B T → Tally (with_between i a b B) (with_between i a b T)
+tally_between : (i a b : ℕ) (B T : Table) → Passed (narrow_checks i a b T.lots) → Tally B T → Tally (with_lot_between i a b B) (with_lot_between i a b T)
 tally_between i a b B T k h =
     let n : length B.lots ≡ length T.lots = length_all_zip _ B.lots T.lots h.work in
     let inT : i < length T.lots = omega (arith, k.0) in
@@ -67,7 +68,7 @@ tally_opened C T U s = subst (Tally (empty C)) (sym s.1) (tally_empty C s.0)
 pub tally_step : (e : Entry) (B T U : Table) → Step e T U → Tally B T → Tally (enter e B) U
 tally_step (accepted (opening C)) B T U s h = tally_opened C T U s
 tally_step (accepted (admitting x)) B T U s h = subst (Tally (with_lot x B)) (sym s.1.1.1) (tally_with_lot x B T s.1.0 h)
-tally_step (accepted (narrowing i a b)) B T U s h = subst (Tally (with_between i a b B)) (sym s.1) (tally_between i a b B T s.0 h)
+tally_step (accepted (narrowing i a b)) B T U s h = subst (Tally (with_lot_between i a b B)) (sym s.1) (tally_between i a b B T s.0 h)
 tally_step (accepted (tightening m)) B T U s h =
     let k = settled_kept m s.0 T.capacity T.lots U.lots h.lawful s.1 s.2 s.3.settled in
     let e : record { capacity = T.capacity; lots = U.lots } ≡ U = λ i. record { capacity = sym s.3.same_capacity i; lots = U.lots } in
@@ -86,7 +87,7 @@ tally_schedules {B} {T} h ss = (
 )
 
 -- what is best of a table is best of another with the same work and schedules
-best_same : (T U : Table) (E : ℕ) (ss : List ℕ) → SameWork T.lots U.lots → ((us : List ℕ) → ScheduleOf T us → ScheduleOf U us) → ((us : List ℕ) → ScheduleOf U us → ScheduleOf T us) → BestOf T E ss → BestOf U E ss
+best_same : (T U : Table) (E : ℕ) (ss : List ℕ) → SameWork T.lots U.lots → ((us : List ℕ) → Schedule T.capacity T.lots us → Schedule U.capacity U.lots us) → ((us : List ℕ) → Schedule U.capacity U.lots us → Schedule T.capacity T.lots us) → BestSchedule T.capacity T.lots E ss → BestSchedule U.capacity U.lots E ss
 best_same T U E ss w there back b = record {
   schedule = there ss b.schedule;
   ends = end_same T.lots U.lots ss w ∙ b.ends;
@@ -96,8 +97,8 @@ best_same T U E ss w there back b = record {
 pub tally_answers : {B T : Table} → Tally B T → AnswersTo B T
 tally_answers {B} {T} h =
     let same = tally_schedules h in
-    let hopeless : NoSchedule T → NoSchedule B = λ none ss s. none ss ((same ss).0 s) in
-    let bests : (E : ℕ) (ss : List ℕ) → BestOf T E ss → BestOf B E ss =
+    let hopeless : Hopeless T.capacity T.lots → Hopeless B.capacity B.lots = λ none ss s. none ss ((same ss).0 s) in
+    let bests : (E : ℕ) (ss : List ℕ) → BestSchedule T.capacity T.lots E ss → BestSchedule B.capacity B.lots E ss =
     λ E ss. best_same T B E ss (same_work_sym B.lots T.lots h.work) (λ us. (same us).1) (λ us. (same us).0) in
     record {
       lawful = h.lawful;

@@ -7,11 +7,11 @@ use Rattle.lots.specs.declared.Lot.{Lot}
 use Rattle.rule.specs.Meanings.{SameWork, Keeps}
 use Rattle.rule.proofs.Schedules.{schedule_same}
 use Rattle.rule.specs.Laws.Tables.{same_work_refl, same_work_sym, same_work_trans}
-use Rattle.plan.specs.Tables.{between}
+use Rattle.plan.specs.Tables.{lot_between}
 
 -- the lots, the one with the number i in at a or later and out by b
 abbrev pub lots_between : ℕ → ℕ → ℕ → List Lot → List Lot
-lots_between i a b T = set T i (between a b (lot_at T i))
+lots_between i a b T = set T i (lot_between a b (lot_at T i))
 
 -- the starts keep to the new bounds
 abbrev Meets : ℕ → ℕ → ℕ → List Lot → List ℕ → Type 0

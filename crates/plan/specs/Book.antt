@@ -2,7 +2,8 @@
 use Rattle.std.specs.Prelude.{ℕ, List, [], ◌∷◌, Ok, Err, Result}
 use Rattle.lots.specs.declared.Lot.{Lot}
 use Rattle.rule.specs.Meanings.{Meaning}
-use Rattle.plan.specs.Tables.{Table, empty, with_lot, with_between}
+use Rattle.plan.specs.Tables.{empty, with_lot, with_lot_between}
+use Rattle.lots.specs.Tables.{Table}
 
 -- a call with its arguments, a rule by its meaning
 pub data Call : Type 0 where
@@ -27,7 +28,7 @@ noted c (Err e) = refused c
 abbrev pub enter : Entry → Table → Table
 enter (accepted (opening C)) B = empty C
 enter (accepted (admitting x)) B = with_lot x B
-enter (accepted (narrowing i a b)) B = with_between i a b B
+enter (accepted (narrowing i a b)) B = with_lot_between i a b B
 enter (accepted (tightening m)) B = B
 enter (accepted (solving m budget cs ss)) B = B
 enter (refused c) B = B

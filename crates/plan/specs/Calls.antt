@@ -2,14 +2,14 @@
 use Rattle.std.specs.Prelude.{◌≡◌, ℕ, ◌+◌, ◌<◌, ◌≤◌, ◌⊎◌, List, [], ◌∷◌, length, Result}
 use Rattle.lots.specs.Checks.{Check, Checked}
 use Rattle.lots.specs.Limits.{horizon, max_capacity, max_lots}
-use Rattle.lots.specs.Tables.{ect, lot_at}
+use Rattle.lots.specs.Tables.{ect, lot_at, Table}
 use Rattle.lots.specs.declared.Lot.{Lot}
 use Rattle.lots.specs.declared.Refusal.{Refusal}
 use Rattle.lots.specs.declared.Refusal.TheVariants.{Capacity, TableFull, Trays, Run, Window, NoSuchLot, Span, NoRoom}
 use Rattle.rule.specs.Meanings.{Meaning}
 use Rattle.rule.specs.Settled.{slack, Settled}
 use Rattle.rule.specs.declared.Verdict.{Verdict}
-use Rattle.plan.specs.Tables.{Table, empty, with_lot, between, with_between}
+use Rattle.plan.specs.Tables.{empty, with_lot, lot_between, with_lot_between}
 
 abbrev pub open_checks : ℕ → List Check
 open_checks C = record { refusal = Capacity; applies = (C ≡ 0) ⊎ (max_capacity < C) } ∷ []
@@ -35,7 +35,7 @@ Admitted x T U r = Checked (admit_checks x T.capacity (length T.lots)) (U ≡ T)
 abbrev pub window_checks : Lot → ℕ → ℕ → List Check
 window_checks x a b =
     record { refusal = Span; applies = (b < a) ⊎ (horizon < b) }
-    ∷ record { refusal = NoRoom; applies = (between a b x).lct < ect (between a b x) }
+    ∷ record { refusal = NoRoom; applies = (lot_between a b x).lct < ect (lot_between a b x) }
     ∷ []
 
 abbrev pub narrow_checks : ℕ → ℕ → ℕ → List Lot → List Check
@@ -43,7 +43,7 @@ narrow_checks i a b xs = record { refusal = NoSuchLot; applies = length xs ≤ i
 
 -- narrow: the lot with the number i goes in at a or later and is out by b
 abbrev pub Narrowed : ℕ → ℕ → ℕ → Table → Table → Result (Unit {0}) Refusal → Type 0
-Narrowed i a b T U r = Checked (narrow_checks i a b T.lots) (U ≡ T) (λ _. U ≡ with_between i a b T) r
+Narrowed i a b T U r = Checked (narrow_checks i a b T.lots) (U ≡ T) (λ _. U ≡ with_lot_between i a b T) r
 
 -- tighten by the rule m, which never refuses: its verdict, and the number k of applications
 pub record Tightened (m : Meaning) (T U : Table) (v : Verdict) (k : ℕ) : Type 0 where

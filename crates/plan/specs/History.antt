@@ -6,7 +6,8 @@ use Rattle.rule.specs.Meanings.{Sound}
 use Rattle.rule.specs.declared.Verdict.{Verdict}
 use Rattle.tree.specs.Answer.{Solved}
 use Rattle.tree.specs.declared.Search.{Search}
-use Rattle.plan.specs.Tables.{Table, SameSchedules, empty}
+use Rattle.plan.specs.Tables.{SameSchedules, empty}
+use Rattle.lots.specs.Tables.{Table}
 use Rattle.plan.specs.Calls.{Opened, Admitted, Narrowed, Tightened}
 use Rattle.plan.specs.Book.{opening, admitting, narrowing, tightening, solving, Entry, accepted, refused, book}
 
@@ -32,9 +33,9 @@ pub data History : List Entry → Table → Type 0 where
   later : {es : List Entry} {T U : Table} (e : Entry) → History es T → Step e T U → History (e ∷ es) U
 
 -- an accepted open begins a history, whatever the plan held
-abbrev pub Begins : ℕ → Result (Unit {0}) Refusal → Table → Type 0
-Begins C (Ok x) U = History (accepted (opening C) ∷ []) U
-Begins C (Err e) U = Unit {0}
+abbrev pub BeginsHistory : ℕ → Result (Unit {0}) Refusal → Table → Type 0
+BeginsHistory C (Ok x) U = History (accepted (opening C) ∷ []) U
+BeginsHistory C (Err e) U = Unit {0}
 
 -- what a call does to every history of the plan: it is one entry longer, and its book has the plan's schedules
 abbrev pub Follows : Entry → Table → Table → Type 0

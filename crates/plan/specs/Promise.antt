@@ -1,12 +1,14 @@
 -- What a plan owes its book, whatever has been asked of it.
 use Rattle.std.specs.Prelude.{◌≡◌, ℕ, ◌-◌, ◌*◌, ◌<◌, ◌≤◌, ◌↔◌, min, List, length, Ok}
 use Rattle.lots.specs.declared.Lot.{Lot}
-use Rattle.rule.specs.Meanings.{SameWork, Meaning, Sound}
+use Rattle.rule.specs.Meanings.{SameWork, Meaning, Sound, Hopeless}
 use Rattle.tree.specs.Tree.{BestKnown, unknown, Visit, ways}
 use Rattle.tree.specs.Answer.{nodes, Solved, Right}
 use Rattle.tree.specs.declared.Search.{Search}
 use Rattle.tree.specs.declared.Search.TheVariants.{Best, None, Spent}
-use Rattle.plan.specs.Tables.{Table, LawfulTable, SameSchedules, NoSchedule, BestOf}
+use Rattle.plan.specs.Tables.{SameSchedules}
+use Rattle.lots.specs.Tables.{Lawful, Table}
+use Rattle.lots.specs.Schedules.{BestSchedule}
 use Rattle.plan.specs.Book.{Entry, book}
 use Rattle.plan.specs.History.{History}
 
@@ -34,12 +36,12 @@ Searches B T =
 
 -- a plan that holds the table T answers to the book B: what is best of T is best of B, and there is none where B has none
 pub record AnswersTo (B T : Table) : Type 0 where
-  pub lawful : LawfulTable T
+  pub lawful : Lawful T.capacity T.lots
   pub same_capacity : T.capacity ≡ B.capacity
   pub same_work : SameWork B.lots T.lots
   pub same_schedules : SameSchedules B T
-  pub same_best : (E : ℕ) (ss : List ℕ) → (BestOf B E ss → BestOf T E ss) × (BestOf T E ss → BestOf B E ss)
-  pub same_hopeless : (NoSchedule B → NoSchedule T) × (NoSchedule T → NoSchedule B)
+  pub same_best : (E : ℕ) (ss : List ℕ) → (BestSchedule B.capacity B.lots E ss → BestSchedule T.capacity T.lots E ss) × (BestSchedule T.capacity T.lots E ss → BestSchedule B.capacity B.lots E ss)
+  pub same_hopeless : (Hopeless B.capacity B.lots → Hopeless T.capacity T.lots) × (Hopeless T.capacity T.lots → Hopeless B.capacity B.lots)
   pub searches : Searches B T
 
 -- after every history the plan answers to its book

@@ -6,7 +6,7 @@ ghost use Rattle.plan.specs.Calls.{Opened, Admitted, Narrowed, Tightened};
 ghost use Rattle.tree.specs.Answer.{nodes as nodes_of, Solved};
 ghost use Rattle.tree.specs.Tree.{ways};
 ghost use Rattle.plan.specs.Book.{opening, admitting, narrowing, tightening, solving, Entry, accepted, noted, book};
-ghost use Rattle.plan.specs.History.{History, Begins, Follows};
+ghost use Rattle.plan.specs.History.{History, BeginsHistory, Follows};
 ghost use Rattle.plan.specs.Promise.{SearchAnswersTo};
 
 use crate::Plan;
@@ -32,7 +32,7 @@ impl Plan {
     pub fn open(&mut self, capacity: u16) -> Result<(), Refusal>
         ensures exact { Opened capacity self.old self.new result }
         ensures follows { Follows (noted (opening capacity) result) self.old self.new }
-        ensures begins { Begins capacity result self.new }
+        ensures begins { BeginsHistory capacity result self.new }
     {
         if capacity == 0 || capacity > MAX_CAPACITY {
             return Err(Refusal::Capacity);

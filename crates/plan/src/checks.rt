@@ -2,7 +2,7 @@
 ghost use Rattle.std.specs.Prelude.{◌≡◌};
 ghost use Rattle.lots.specs.Checks.{Checked};
 ghost use Rattle.plan.specs.Calls.{admit_checks, window_checks};
-ghost use Rattle.plan.specs.Tables.{between};
+ghost use Rattle.plan.specs.Tables.{lot_between};
 
 use lots::{HORIZON, Lot, MAX_LOTS, Refusal};
 
@@ -27,7 +27,7 @@ pub(crate) fn admission(lot: Lot, capacity: u16, len: usize) -> Result<(), Refus
 
 // The lot with a tighter window, where its run still fits.
 pub(crate) fn narrowed(lot: Lot, from: u16, to: u16) -> Result<Lot, Refusal>
-    ensures answer { Checked (window_checks lot from to) (Unit {0}) (λ x. x ≡ between from to lot) result }
+    ensures answer { Checked (window_checks lot from to) (Unit {0}) (λ x. x ≡ lot_between from to lot) result }
 {
     if from > to || to > HORIZON {
         return Err(Refusal::Span);

@@ -21,7 +21,7 @@ pub struct Plan {
 // Clauses see its table.
 impl Model for Plan {
     ghost use Rattle.lots.specs.Tables.{Lawful};
-    ghost use Rattle.plan.specs.Tables.{Table};
+    ghost use Rattle.lots.specs.Tables.{Table};
 
     ghost Value = { Table };
 

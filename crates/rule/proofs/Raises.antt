@@ -7,42 +7,42 @@ use Rattle.lots.specs.Schedules.{Placed, Schedule}
 use Rattle.lots.specs.Tables.{ect, lot_at, Fits, LawfulLot, Lawful}
 use Rattle.lots.specs.declared.Lot.{Lot}
 use Rattle.lots.proofs.Schedules.{placed_fits}
-use Rattle.rule.specs.Meanings.{SameWork, Narrower, LawfulSameWork, Keeps, Hopeless, Gives, Dies, dead, to}
-use Rattle.rule.specs.Raised.{later, later_all, all_fit, raise, Answers}
+use Rattle.rule.specs.Meanings.{SameWork, Narrower, LawfulSameWork, Keeps, Hopeless, Gives, Dies, dead, to, IsVerdictOn}
+use Rattle.rule.specs.Raised.{later_lot, later_lots, all_fit, raise}
 use Rattle.rule.specs.declared.Verdict.{Verdict}
 use Rattle.rule.specs.declared.Verdict.TheVariants.{Still, Moved, Dead}
 use Rattle.rule.specs.Laws.Tables.{lot_path}
 use Rattle.rule.proofs.Schedules.{schedule_same}
 
 module _ (bound : ℕ → ℕ) where
-  later_work : (k : ℕ) (T : List Lot) → SameWork T (later_all bound k T)
+  later_work : (k : ℕ) (T : List Lot) → SameWork T (later_lots bound k T)
   later_work k [] = tt
   later_work k (x ∷ xs) = ((refl, refl), later_work (suc k) xs)
 
-  later_narrower : (k : ℕ) (T : List Lot) → Narrower T (later_all bound k T)
+  later_narrower : (k : ℕ) (T : List Lot) → Narrower T (later_lots bound k T)
   later_narrower k [] = tt
   later_narrower k (x ∷ xs) = ((omega arith, omega arith), later_narrower (suc k) xs)
 
-  later_length : (k : ℕ) (T : List Lot) → length (later_all bound k T) ≡ length T
+  later_length : (k : ℕ) (T : List Lot) → length (later_lots bound k T) ≡ length T
   later_length k [] = refl
   later_length k (x ∷ xs) = ap suc (later_length (suc k) xs)
 
-  later_lawful : (C k : ℕ) (T : List Lot) → AllByRecursion (LawfulLot C) T → all_fit (later_all bound k T) ≡ true → AllByRecursion (LawfulLot C) (later_all bound k T)
+  later_lawful : (C k : ℕ) (T : List Lot) → AllByRecursion (LawfulLot C) T → all_fit (later_lots bound k T) ≡ true → AllByRecursion (LawfulLot C) (later_lots bound k T)
   later_lawful C k [] ok fit = tt
   later_lawful C k (x ∷ xs) ok fit =
-      let parts = and_parts (leb (ect (later (bound k) x)) x.lct) (all_fit (later_all bound (suc k) xs)) fit in (
+      let parts = and_parts (leb (ect (later_lot (bound k) x)) x.lct) (all_fit (later_lots bound (suc k) xs)) fit in (
         record {
           runs = ok.0.runs;
           takes_trays = ok.0.takes_trays;
           has_trays = ok.0.has_trays;
-          has_time = leb-true (ect (later (bound k) x)) x.lct parts.0;
+          has_time = leb-true (ect (later_lot (bound k) x)) x.lct parts.0;
           in_week = ok.0.in_week;
         },
         later_lawful C (suc k) xs ok.1 parts.1,
       )
 
   -- starts that keep the bounds are starts of the later lots, whose runs therefore fit
-  later_placed : (k : ℕ) (T : List Lot) (ss : List ℕ) → ((j : ℕ) → j < length T → bound (k + j) ≤ get_or ss j 0) → Placed T ss → Placed (later_all bound k T) ss
+  later_placed : (k : ℕ) (T : List Lot) (ss : List ℕ) → ((j : ℕ) → j < length T → bound (k + j) ≤ get_or ss j 0) → Placed T ss → Placed (later_lots bound k T) ss
   later_placed k [] [] kept p = tt
   later_placed k [] (s ∷ ss) kept p = absurd p
   later_placed k (x ∷ xs) [] kept p = absurd p
@@ -57,7 +57,7 @@ module _ (bound : ℕ → ℕ) where
 
   module _ (C : ℕ) (T : List Lot) (ok : Lawful C T) where
     abbrev U : List Lot
-    U = later_all bound 0 T
+    U = later_lots bound 0 T
 
     given : (P : List Lot → Type 0) → (all_fit U ≡ true → P U) → (b : Bool) → all_fit U ≡ b → Gives (if b then to U else dead) P
     given P h true e = h e
@@ -98,19 +98,19 @@ Changed Moved T U = U ≡ T → ⊥
 Changed Dead T U = ⊥
 
 -- the loop that tests, one lot more
-pub fit_more : (bound : ℕ → ℕ) (T : List Lot) (i : ℕ) → i < length T → all_fit (later_all bound i (drop i T)) ≡ (leb (ect (later (bound i) (lot_at T i))) (lot_at T i).lct && all_fit (later_all bound (i + 1) (drop (i + 1) T)))
+pub fit_more : (bound : ℕ → ℕ) (T : List Lot) (i : ℕ) → i < length T → all_fit (later_lots bound i (drop i T)) ≡ (leb (ect (later_lot (bound i) (lot_at T i))) (lot_at T i).lct && all_fit (later_lots bound (i + 1) (drop (i + 1) T)))
 fit_more bound T i h =
-    at_drop_more (λ xs. all_fit (later_all bound i xs)) T i _ h
-    ∙ ap (λ n. leb (ect (later (bound i) (lot_at T i))) (lot_at T i).lct && all_fit (later_all bound n (drop (i + 1) T))) (sym (add-one i))
+    at_drop_more (λ xs. all_fit (later_lots bound i xs)) T i _ h
+    ∙ ap (λ n. leb (ect (later_lot (bound i) (lot_at T i))) (lot_at T i).lct && all_fit (later_lots bound n (drop (i + 1) T))) (sym (add-one i))
 
 -- the first i lots start at their bound or later, and the others are as they were
 pub record RaisedUpTo (bound : ℕ → ℕ) (T U : List Lot) (i : ℕ) : Type 0 where
-  pub raised : (j : ℕ) → j < i → lot_at U j ≡ later (bound j) (lot_at T j)
+  pub raised : (j : ℕ) → j < i → lot_at U j ≡ later_lot (bound j) (lot_at T j)
   pub rest : (j : ℕ) → i ≤ j → lot_at U j ≡ lot_at T j
 
 -- the loop that writes, one lot more: q is the bound, and V the table after the turn
 module _ {bound : ℕ → ℕ} {T U V : List Lot} {i q : ℕ} (r : RaisedUpTo bound T U i) (h : i < length U) (is : q ≡ bound i) where
-  raised_more : (z : Lot) → V ≡ set U i z → z ≡ later (bound i) (lot_at U i) → RaisedUpTo bound T V (i + 1)
+  raised_more : (z : Lot) → V ≡ set U i z → z ≡ later_lot (bound i) (lot_at U i) → RaisedUpTo bound T V (i + 1)
   raised_more z made new = record {
     raised = below_more _ _ (λ j k. let ne : j ≢ i = omega arith in rw (made, get_or-set_other) (r.raised j k))
         (rw (made, get_or-set_same, new, r.rest i (omega arith)) refl);
@@ -131,25 +131,25 @@ module _ {bound : ℕ → ℕ} {T U V : List Lot} {i q : ℕ} (r : RaisedUpTo bo
         omega arith
 
 -- lots that each start at their bound or later
-each_later : (bound : ℕ → ℕ) (k : ℕ) (T U : List Lot) → length U ≡ length T → ((j : ℕ) → j < length T → lot_at U j ≡ later (bound (k + j)) (lot_at T j)) → U ≡ later_all bound k T
+each_later : (bound : ℕ → ℕ) (k : ℕ) (T U : List Lot) → length U ≡ length T → ((j : ℕ) → j < length T → lot_at U j ≡ later_lot (bound (k + j)) (lot_at T j)) → U ≡ later_lots bound k T
 each_later bound k [] [] same each = refl
 each_later bound k [] (y ∷ ys) same each = absurd (omega arith)
 each_later bound k (x ∷ xs) [] same each = absurd (omega arith)
 each_later bound k (x ∷ xs) (y ∷ ys) same each =
     ap₂ ◌∷◌ (rw add-zero at (each 0 (omega arith)))
-    (each_later bound (suc k) xs ys (omega arith) (λ j h. subst (λ n. lot_at ys j ≡ later (bound n) (lot_at xs j)) (omega arith) (each (suc j) (omega arith))))
+    (each_later bound (suc k) xs ys (omega arith) (λ j h. subst (λ n. lot_at ys j ≡ later_lot (bound n) (lot_at xs j)) (omega arith) (each (suc j) (omega arith))))
 
 -- the whole table was gone through
-pub answers_from_changed : {bound : ℕ → ℕ} {T U : List Lot} {i : ℕ} (v : Verdict) → RaisedUpTo bound T U i → length T ≤ i → length U ≡ length T → all_fit (later_all bound 0 T) ≡ true → Changed v T U → Answers (raise bound T) T U v
+pub answers_from_changed : {bound : ℕ → ℕ} {T U : List Lot} {i : ℕ} (v : Verdict) → RaisedUpTo bound T U i → length T ≤ i → length U ≡ length T → all_fit (later_lots bound 0 T) ≡ true → Changed v T U → IsVerdictOn (raise bound T) T U v
 answers_from_changed {bound} {T} {U} v r done same fit changed = answered v changed
   where
-    whole : U ≡ later_all bound 0 T
+    whole : U ≡ later_lots bound 0 T
     whole = each_later bound 0 T U same (λ j h. rw zero-add (r.raised j (omega arith)))
 
     gives : raise bound T ≡ to U
-    gives = ap (λ b. if b then to (later_all bound 0 T) else dead) fit ∙ ap to (sym whole)
+    gives = ap (λ b. if b then to (later_lots bound 0 T) else dead) fit ∙ ap to (sym whole)
 
-    answered : (v : Verdict) → Changed v T U → Answers (raise bound T) T U v
+    answered : (v : Verdict) → Changed v T U → IsVerdictOn (raise bound T) T U v
     answered Still same = (gives ∙ ap to same, same)
     answered Moved other = (gives, other)
     answered Dead none = absurd none

@@ -55,9 +55,14 @@ pub record Sound (m : Meaning) : Type 0 where
   pub keeps : (C : ℕ) (T : List Lot) → Lawful C T → Gives (m C T) (Keeps C T)
   pub dies_rightly : (C : ℕ) (T : List Lot) → Lawful C T → Dies (m C T) (Hopeless C T)
 
--- what an application answers, where T is the table before and U the table after
+-- the verdict on an outcome, where T is the table before and U the table after
+abbrev pub IsVerdictOn : Outcome → List Lot → List Lot → Verdict → Type 0
+IsVerdictOn o T U Still = (o ≡ to T) × (U ≡ T)
+IsVerdictOn o T U Moved = (o ≡ to U) × (U ≢ T)
+IsVerdictOn o T U Dead = (o ≡ dead) × (U ≡ T)
+
+-- what an application answers, where T is the table before and U the table after: the verdict on the meaning of a lawful
+-- table, and a refusal of any other, which stays
 abbrev pub Applied : Meaning → ℕ → List Lot → List Lot → Result Verdict Refusal → Type 0
-Applied m C T U (Ok Still) = Lawful C T × (m C T ≡ to T) × (U ≡ T)
-Applied m C T U (Ok Moved) = Lawful C T × (m C T ≡ to U) × (U ≢ T)
-Applied m C T U (Ok Dead) = Lawful C T × (m C T ≡ dead) × (U ≡ T)
+Applied m C T U (Ok v) = Lawful C T × IsVerdictOn (m C T) T U v
 Applied m C T U (Err e) = (Lawful C T → ⊥) × (e ≡ Unlawful) × (U ≡ T)

@@ -6,7 +6,7 @@ use Rattle.lots.specs.declared.Lot.{Lot}
 use Rattle.rule.specs.Meanings.{Outcome, Meaning, dead, to}
 
 abbrev pub turn : Lot → Lot
-turn x = record { est = horizon - x.lct; lct = horizon - x.est; p = x.p; c = x.c }
+turn x = record x { est = horizon - x.lct; lct = horizon - x.est }
 
 abbrev pub turn_outcome : Outcome → Outcome
 turn_outcome dead = dead

@@ -1,7 +1,8 @@
 // Earliest starts made later, all of them together.
 ghost use Rattle.std.specs.Prelude.{◌≡◌, ◌+◌, ◌<◌, max, true, nat_le, slice_index};
 ghost use Rattle.lots.specs.Tables.{ect as earliest_end};
-ghost use Rattle.rule.specs.Raised.{later, later_all, all_fit, raise as raised, Answers};
+ghost use Rattle.rule.specs.Raised.{later_lot, later_lots, all_fit, raise as raised};
+ghost use Rattle.rule.specs.Meanings.{IsVerdictOn};
 
 use crate::Verdict;
 use lots::Lot;
@@ -15,7 +16,7 @@ fn bound_of(bounds: &[u16], number: usize) -> u16
 
 // Whether the run fits the window of a lot that starts at the bound or later.
 fn fits(lot: &Lot, bound: u16) -> bool
-    ensures answer { result ≡ nat_le (earliest_end (later bound lot.now)) lot.now.lct }
+    ensures answer { result ≡ nat_le (earliest_end (later_lot bound lot.now)) lot.now.lct }
 {
     let later = Lot {
         est: bound.max(lot.est),
@@ -26,7 +27,7 @@ fn fits(lot: &Lot, bound: u16) -> bool
 
 // Whether every run fits its window where each lot starts at its bound or later.
 fn every_run_fits(lots: &[Lot], bounds: &[u16]) -> bool
-    ensures answer { result ≡ all_fit (later_all (λ j. slice_index bounds.now j) 0 lots.now) }
+    ensures answer { result ≡ all_fit (later_lots (λ j. slice_index bounds.now j) 0 lots.now) }
 {
     // A loop: with a chain of `all` the time-table takes half as long again on long windows.
     for (number, lot) in lots.iter().enumerate() {
@@ -39,7 +40,7 @@ fn every_run_fits(lots: &[Lot], bounds: &[u16]) -> bool
 
 // Has each lot start at its bound or later. It is dead, and nothing moves, where a run does not fit then.
 pub fn raise(lots: &mut [Lot], bounds: &[u16]) -> Verdict
-    ensures answer { Answers (raised (λ j. slice_index bounds.now j) lots.old) lots.old lots.new result }
+    ensures answer { IsVerdictOn (raised (λ j. slice_index bounds.now j) lots.old) lots.old lots.new result }
 {
     if !every_run_fits(lots, bounds) {
         return Verdict::Dead;

@@ -7,7 +7,7 @@ use Rattle.std.proofs.lemmas.Bool.Decides.{nat_tests}
 use Rattle.std.proofs.lemmas.Bool.{cases_eq, cases_lt, and_from, and_left, or_left, or_right, eq-eqb, ne_eqb, lt-ltb, le-ltb}
 use Rattle.lots.specs.Tables.{ect, lot_at}
 use Rattle.lots.specs.declared.Lot.{Lot}
-use Rattle.elastic.specs.Parts.{those, kept}
+use Rattle.elastic.specs.Marked.{marked_lots, stand_in}
 use Rattle.elastic.specs.Profile.{has, overflow}
 use Rattle.elastic.proofs.Counts.{has_push}
 use Rattle.elastic.proofs.Keys.{key_place, key_has}
@@ -20,7 +20,7 @@ use Rattle.rules.specs.declared.ends.End.{End}
 use Rattle.rules.specs.Laws.ChosenLots.{chosen_more}
 
 -- the lots that are marked, where the marks are the answers of a test
-pub those_chosen : (test : ℕ → Lot → Bool) (k : ℕ) (bs : List Bool) (T : List Lot) → ((j : ℕ) → j < length T → get_or bs j false ≡ test (k + j) (lot_at T j)) → those bs T ≡ chosen test k T
+pub those_chosen : (test : ℕ → Lot → Bool) (k : ℕ) (bs : List Bool) (T : List Lot) → ((j : ℕ) → j < length T → get_or bs j false ≡ test (k + j) (lot_at T j)) → marked_lots bs T ≡ chosen test k T
 those_chosen test k [] [] h = refl
 those_chosen test k [] (x ∷ xs) h =
     let out : test k x ≡ false = sym (h 0 (omega arith) ∙ ap (λ n. test n x) (add-zero k)) in
@@ -32,12 +32,12 @@ those_chosen test k (b ∷ bs) (x ∷ xs) h =
     let rest = those_chosen test (suc k) bs xs (λ j l. h (suc j) (omega arith) ∙ ap (λ n. test n (lot_at xs j)) (omega arith)) in
     ap₂ (λ c ys. if c then x ∷ ys else ys) here rest
 
-pub marked_cut : (T : List Lot) (i t : ℕ) (bs : List Bool) → Marks T i t bs → those bs T ≡ cut T i t
+pub marked_cut : (T : List Lot) (i t : ℕ) (bs : List Bool) → Marks T i t bs → marked_lots bs T ≡ cut T i t
 marked_cut T i t bs h = those_chosen (in_cut i (lot_at T i).est t) 0 bs T (λ j l. h j l ∙ ap (λ n. in_cut i (lot_at T i).est t n (lot_at T j)) (omega arith))
 
 -- what is left over in the profile of the marked lots, beside the run that stands in
-pub left_beside : (C : ℕ) (T : List Lot) (i t : ℕ) (bs : List Bool) → Marks T i t bs → (m : ℕ) → m ≡ min (ect (lot_at T i)) t → (left : ℕ) → left ≡ overflow C (those bs T ++ kept (lot_at T i).c m (those bs T)) → left ≡ overflow C (with_stand_in T i t)
-left_beside C T i t bs h m e left is = is ∙ ap₂ (λ Ω n. overflow C (Ω ++ kept (lot_at T i).c n Ω)) (marked_cut T i t bs h) e
+pub left_beside : (C : ℕ) (T : List Lot) (i t : ℕ) (bs : List Bool) → Marks T i t bs → (m : ℕ) → m ≡ min (ect (lot_at T i)) t → (left : ℕ) → left ≡ overflow C (marked_lots bs T ++ stand_in (lot_at T i).c m (marked_lots bs T)) → left ≡ overflow C (with_stand_in T i t)
+left_beside C T i t bs h m e left is = is ∙ ap₂ (λ Ω n. overflow C (Ω ++ stand_in (lot_at T i).c n Ω)) (marked_cut T i t bs h) e
 
 -- whether a lot has the end t, one lot more
 module _ (test : ℕ → Lot → Bool) (t : ℕ) where

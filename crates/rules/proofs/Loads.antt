@@ -12,15 +12,15 @@ use Rattle.lots.specs.Tables.{ect, lot_at, LawfulLot, Lawful}
 use Rattle.lots.specs.declared.Lot.{Lot}
 use Rattle.lots.specs.declared.table.Table.{Table}
 use Rattle.lots.proofs.Tables.{lawful_under_most}
-use Rattle.rule.specs.Meanings.{Applied, dead}
-use Rattle.rule.specs.Raised.{raise, Answers}
+use Rattle.rule.specs.Meanings.{Applied, dead, IsVerdictOn}
+use Rattle.rule.specs.Raised.{raise}
 use Rattle.rule.specs.declared.Verdict.{Verdict}
 use Rattle.rule.specs.declared.Verdict.TheVariants.{Dead}
 use Rattle.rules.specs.TimeTable.{fixed, fixed_load, fixed_others, some_below, after_last, blocked_under, bound_of, time_table}
 use Rattle.rules.specs.declared.time_table.Loads.{Loads}
 use Rattle.rules.specs.Laws.FixedParts.{fixed_split}
 use Rattle.rules.specs.Laws.Searches.{some_none, some_here, after_last_none, after_last_same}
-use Rattle.rules.proofs.Raised.{raise_same, applied_from_answers}
+use Rattle.rules.proofs.Raised.{raise_same, applied_from_verdict}
 
 -- the load is a sum over the lots
 fixed_sum : (T : List Lot) (t : ℕ) → fixed_load T t ≡ sum_by (λ x. fixed x t) T
@@ -105,8 +105,8 @@ module _ (C : ℕ) (T : List Lot) (s t : Table) (same : s ≡ t) (is : (t.capaci
   choice b e = ap (λ d. if d then dead else raise (bound_of s.capacity s.lots.now) s.lots.now) (sym e)
 
   pub dead_applied : true ≡ passes s → Applied time_table C T T (Ok Dead)
-  dead_applied e = (is.2, here (λ D U. time_table D U ≡ dead) (choice true e), refl)
+  dead_applied e = (is.2, (here (λ D U. time_table D U ≡ dead) (choice true e), refl))
 
-  pub raise_applied : false ≡ passes s → (bound : ℕ → ℕ) → ((j : ℕ) → j < length s.lots.now → bound j ≡ bound_of s.capacity s.lots.now j) → (U : List Lot) (v : Verdict) → Answers (raise bound T) T U v → Applied time_table C T U (Ok v)
+  pub raise_applied : false ≡ passes s → (bound : ℕ → ℕ) → ((j : ℕ) → j < length s.lots.now → bound j ≡ bound_of s.capacity s.lots.now j) → (U : List Lot) (v : Verdict) → IsVerdictOn (raise bound T) T U v → Applied time_table C T U (Ok v)
   raise_applied e bound bounds U v =
-      applied_from_answers time_table C T U bound v is.2 (here (λ D U. time_table D U ≡ raise bound U) (choice false e ∙ sym (raise_same bound (bound_of s.capacity s.lots.now) s.lots.now bounds)))
+      applied_from_verdict time_table C T U bound v is.2 (here (λ D U. time_table D U ≡ raise bound U) (choice false e ∙ sym (raise_same bound (bound_of s.capacity s.lots.now) s.lots.now bounds)))

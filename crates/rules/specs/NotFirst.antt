@@ -2,7 +2,7 @@
 use Rattle.std.specs.Prelude.{ℕ, zero, suc, min, max, Bool, if◌then◌else◌, not, ◌&&◌, List, [], ◌∷◌, ◌++◌, length, ◌==◌, nat_le, nat_lt}
 use Rattle.lots.specs.Tables.{ect, lot_at}
 use Rattle.lots.specs.declared.Lot.{Lot}
-use Rattle.elastic.specs.Parts.{kept}
+use Rattle.elastic.specs.Marked.{stand_in}
 use Rattle.elastic.specs.Profile.{has}
 use Rattle.rule.specs.Meanings.{Meaning}
 use Rattle.rule.specs.Raised.{raise}
@@ -26,7 +26,7 @@ least_ect (x ∷ (y ∷ ys)) = min (ect x) (least_ect (y ∷ ys))
 -- the cut up to t, with what stands in for i: a run that keeps its trays from the earliest est of the cut until its ect,
 -- or until t where that is earlier
 abbrev pub with_stand_in : List Lot → ℕ → ℕ → List Lot
-with_stand_in T i t = cut T i t ++ kept (lot_at T i).c (min (ect (lot_at T i)) t) (cut T i t)
+with_stand_in T i t = cut T i t ++ stand_in (lot_at T i).c (min (ect (lot_at T i)) t) (cut T i t)
 
 -- the bound that the lot j puts on the est of i, 0 where it puts none
 abbrev pub bound_by : ℕ → List Lot → ℕ → ℕ → ℕ

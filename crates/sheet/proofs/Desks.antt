@@ -3,11 +3,10 @@ use Rattle.std.proofs.Common.{◌≡◌, ℕ, suc, ◌<◌, List, length, sym, r
 use Rattle.std.proofs.lemmas.List.{length_push, length-set}
 use Rattle.std.proofs.lemmas.List.Elements.{length_all_zip}
 use Rattle.std.proofs.ByRecursion.{All-push}
-use Rattle.lots.specs.Tables.{Lawful}
+use Rattle.lots.specs.Tables.{Lawful, Table}
 use Rattle.rule.specs.Meanings.{Meaning, Sound}
 use Rattle.rule.proofs.Chains.{settled_kept}
 use Rattle.rule.specs.declared.Verdict.{Verdict}
-use Rattle.plan.specs.Tables.{Table, LawfulTable}
 use Rattle.plan.specs.Calls.{Tightened}
 use Rattle.plan.proofs.Histories.{one_tray}
 use Rattle.plan.proofs.Tables.{empty_lawful, admitted_lawful, narrowed_lawful}
@@ -27,13 +26,13 @@ new_orderly = record {
 }
 
 -- tightening keeps the plan lawful, and its lots
-pub tightened_kept : (m : Meaning) → Sound m → (P Q : Table) (v : Verdict) (k : ℕ) → LawfulTable P → Tightened m P Q v k → LawfulTable Q × (length Q.lots ≡ length P.lots)
+pub tightened_kept : (m : Meaning) → Sound m → (P Q : Table) (v : Verdict) (k : ℕ) → Lawful P.capacity P.lots → Tightened m P Q v k → Lawful Q.capacity Q.lots × (length Q.lots ≡ length P.lots)
 tightened_kept m sound P Q v k ok t =
     let kept = settled_kept m sound P.capacity P.lots Q.lots ok v k t.settled in
     (subst (λ C. Lawful C Q.lots) (sym t.same_capacity) kept.lawful, sym (length_all_zip _ P.lots Q.lots kept.work))
 
 -- a command leaves a lawful plan of as many lots
-command_orderly : (D : Desk) (Q : Table) → head D.lots < D.line → LawfulTable Q → length Q.lots ≡ length D.plan.lots → Orderly D → Orderly (record { line = suc D.line; lots = D.lots; names = D.names; plan = Q })
+command_orderly : (D : Desk) (Q : Table) → head D.lots < D.line → Lawful Q.capacity Q.lots → length Q.lots ≡ length D.plan.lots → Orderly D → Orderly (record { line = suc D.line; lots = D.lots; names = D.names; plan = Q })
 command_orderly D Q due ok count o = record {
   begun = omega arith;
   few = o.few;
@@ -52,7 +51,7 @@ after_orderly m sound D (machine C n) Q out within due r o = record {
   named = omega (arith, due);
   short = tt;
   admitted = ap (λ P. length P.lots) r.0.1 ∙ omega (arith, due);
-  lawful = subst LawfulTable (sym r.0.1) (empty_lawful C r.0.0);
+  lawful = subst (λ U. Lawful U.capacity U.lots) (sym r.0.1) (empty_lawful C r.0.0);
 }
 after_orderly m sound D (name w) Q out within due r o = record {
   begun = omega arith;
@@ -61,7 +60,7 @@ after_orderly m sound D (name w) Q out within due r o = record {
   named = omega (arith, length_push D.names w, o.named, due.0, due.1);
   short = All-push _ D.names w o.short within.1;
   admitted = ap (λ P. length P.lots) r.0 ∙ omega (arith, o.admitted, due.0, due.1);
-  lawful = subst LawfulTable (sym r.0) o.lawful;
+  lawful = subst (λ U. Lawful U.capacity U.lots) (sym r.0) o.lawful;
 }
 after_orderly m sound D (lot i x) Q out within due r o = record {
   begun = omega arith;
@@ -78,4 +77,4 @@ after_orderly m sound D tighten Q out within due r o =
     let kept = tightened_kept m sound D.plan Q r.0 r.1 o.lawful r.2 in
     command_orderly D Q due kept.0 kept.1 o
 after_orderly m sound D (solve B) Q out within due r o =
-    command_orderly D Q due (subst LawfulTable (sym r.0) o.lawful) (ap (λ P. length P.lots) r.0) o
+    command_orderly D Q due (subst (λ U. Lawful U.capacity U.lots) (sym r.0) o.lawful) (ap (λ P. length P.lots) r.0) o

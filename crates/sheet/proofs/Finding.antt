@@ -10,7 +10,7 @@ use Rattle.std.proofs.lemmas.Fmt.{digits_decimal, digits_value-decimal, decimal-
 use Rattle.lots.specs.Limits.{max_lots}
 use Rattle.lots.specs.Texts.{numbers, space, digit_zero}
 use Rattle.sheet.specs.Lines.{Line, written, machine, name, lot, narrow, tighten, solve, newline, first_printable, last_printable, max_name, max_number, max_budget, Printable, BeginsWithLine}
-use Rattle.sheet.specs.Words.{BeginsNumeral, digit_one, digit_nine, Ends, Stops, BeginsBy, BeginsWithNumber, BeginsWithNumbers, BeginsWithName}
+use Rattle.sheet.specs.Words.{BeginsNumeral, digit_one, digit_nine, StopsAfterNumbers, Stops, BeginsBy, BeginsWithNumber, BeginsWithNumbers, BeginsWithName}
 use Rattle.sheet.proofs.Letters.{machine_letter, name_letter, lot_letter, narrow_letter, tighten_letter, solve_letter, no_machine, no_machine_of_many, no_lot, no_narrow, no_solve, no_name, no_letter, no_empty_line, not_ended}
 use Rattle.sheet.proofs.Lines.{stretch_one, number_one, numbers_stop, newline_follows}
 use Rattle.sheet.proofs.Numerals.{digits, no_numeral, zero_alone}
@@ -78,7 +78,7 @@ number_found (b ∷ bs) = elim (cases_eq b space) [
       ]
 ]
 
-stops_last : (ns mid rest : List ℕ) → Stops IsAsciiDigit mid → mid ≡ numbers ns ++ rest → Ends ns rest → Stops IsAsciiDigit rest
+stops_last : (ns mid rest : List ℕ) → Stops IsAsciiDigit mid → mid ≡ numbers ns ++ rest → StopsAfterNumbers ns rest → Stops IsAsciiDigit rest
 stops_last [] mid rest stops is end = subst (Stops IsAsciiDigit) is stops
 stops_last (n ∷ ns) mid rest stops is end = end
 

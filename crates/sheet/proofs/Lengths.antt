@@ -7,7 +7,7 @@ use Rattle.std.proofs.lemmas.Bool.{cases_lt}
 use Rattle.std.proofs.lemmas.List.{length-take}
 use Rattle.lots.specs.Limits.{horizon, max_lots}
 use Rattle.lots.specs.Refusals.{refusal_number}
-use Rattle.lots.specs.Tables.{LawfulLot}
+use Rattle.lots.specs.Tables.{LawfulLot, Table}
 use Rattle.lots.specs.Texts.{numbers}
 use Rattle.lots.specs.declared.Lot.{Lot}
 use Rattle.lots.specs.declared.Refusal.{Refusal}
@@ -20,7 +20,6 @@ use Rattle.rule.proofs.Slack.{slack_fits}
 use Rattle.tree.specs.declared.Search.{Search}
 use Rattle.tree.specs.declared.Search.TheVariants.{Best, None, Spent}
 use Rattle.tree.proofs.Answers.{InWeek, solved_in_week}
-use Rattle.plan.specs.Tables.{Table}
 use Rattle.sheet.specs.Desks.{Orderly, first_line, window_line, most_of_command, most_of_refusal, commands_left}
 use Rattle.sheet.specs.Lines.{Line, machine, name, lot, narrow, tighten, solve, newline, max_name, max_budget, Bounded}
 use Rattle.sheet.specs.PrintLines.{ended, window_lines, windows_unless_dead, tighten_print, start_lines, solve_print, refusal_print}

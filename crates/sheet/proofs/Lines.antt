@@ -7,7 +7,7 @@ use Rattle.std.proofs.lemmas.Fmt.{digits_decimal, decimal_injective, length-deci
 use Rattle.lots.specs.Texts.{numbers}
 use Rattle.rule.specs.Laws.Tables.{lot_path}
 use Rattle.sheet.specs.Lines.{newline, max_number, max_budget, Line, machine, name, lot, narrow, tighten, solve, written, Bounded, Printable, BeginsWithLine}
-use Rattle.sheet.specs.Words.{Stops, Follows}
+use Rattle.sheet.specs.Words.{Stops, StopsAfter}
 use Rattle.sheet.proofs.Numerals.{digits}
 
 -- stretches
@@ -50,7 +50,7 @@ numbers_one (n ∷ ns) (k ∷ ks) rest more count small low stops ends same =
 
 -- lines
 
-pub first_one : (l k : Line) (rest more : List ℕ) → Bounded l → Bounded k → Follows l rest → Follows k more → written l ++ rest ≡ written k ++ more → (l ≡ k) × (rest ≡ more)
+pub first_one : (l k : Line) (rest more : List ℕ) → Bounded l → Bounded k → StopsAfter l rest → StopsAfter k more → written l ++ rest ≡ written k ++ more → (l ≡ k) × (rest ≡ more)
 first_one (machine C n) (machine D m) rest more within low stops ends same =
     let one = numbers_one (C ∷ n ∷ []) (D ∷ m ∷ []) rest more refl (search rules) (search rules) stops ends (ap (drop 1) same) in
     (cc one.0, one.1)
@@ -72,7 +72,7 @@ first_one (solve B) (solve D) rest more within low stops ends same =
 first_one l k rest more within low stops ends same = absurd (omega (arith, ap (λ bs. get_or bs 0 0) same))
 
 -- the byte that ends a line is no digit, and no part of a name
-pub newline_follows : (l : Line) (rest : List ℕ) → Follows l (newline ∷ rest)
+pub newline_follows : (l : Line) (rest : List ℕ) → StopsAfter l (newline ∷ rest)
 newline_follows (machine C n) rest = λ digit. omega (arith, digit.0)
 newline_follows (name w) rest = λ printable. omega (arith, printable.0)
 newline_follows (lot i x) rest = λ digit. omega (arith, digit.0)

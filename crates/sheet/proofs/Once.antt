@@ -6,21 +6,21 @@ use Rattle.lots.specs.Limits.{max_lots}
 use Rattle.lots.specs.Texts.{numbers}
 use Rattle.lots.specs.declared.Refusal.{Refusal}
 use Rattle.rule.specs.Meanings.{Meaning, Sound}
-use Rattle.tree.specs.Answer.{solve_checks}
+use Rattle.tree.specs.Answer.{solve_checks, max_trail}
 use Rattle.tree.specs.declared.Search.{Search}
 use Rattle.tree.specs.declared.Search.TheVariants.{Best, None, Spent}
 use Rattle.tree.proofs.Answers.{SameStarts, solved_one}
-use Rattle.plan.specs.Tables.{Table}
+use Rattle.lots.specs.Tables.{Table}
 use Rattle.plan.specs.Calls.{open_checks, admit_checks, narrow_checks}
 use Rattle.plan.proofs.Once.{opened_one, admitted_one, narrowed_one, tightened_one}
 use Rattle.sheet.specs.Lines.{Line, machine, name, lot, narrow, tighten, solve, written, newline}
 use Rattle.sheet.specs.PrintLines.{ended, tighten_print, start_lines, solve_print, refusal_print}
-use Rattle.sheet.specs.Runs.{Desk, new_desk, head, Due, Begins, max_trail, Searched, Runs, Refuses, after, Prints, ends, runs, refused, ninth, formless, PrintOf}
+use Rattle.sheet.specs.Runs.{Desk, new_desk, head, Due, BeginsWithDueLine, Searched, Runs, Refuses, after, Prints, ends, runs, refused, ninth, formless, PrintOf}
 use Rattle.sheet.proofs.Lines.{line_one}
 use Rattle.sheet.specs.Desks.{Orderly}
 use Rattle.sheet.proofs.Desks.{new_orderly, after_orderly}
 
-nothing_begins : (D : Desk) (l : Line) (rest : List ℕ) → Begins D [] l rest → ⊥
+nothing_begins : (D : Desk) (l : Line) (rest : List ℕ) → BeginsWithDueLine D [] l rest → ⊥
 nothing_begins D l rest b = omega (arith, ap length b.0.0, length-append (written l) (newline ∷ rest))
 
 -- searches

@@ -7,7 +7,7 @@ use Rattle.std.proofs.lemmas.Fmt.{digits_decimal}
 use Rattle.std.proofs.lemmas.List.{take-append-drop, drop-drop}
 use Rattle.lots.specs.Texts.{Reads, numbers, space}
 use Rattle.sheet.specs.Lines.{Printable, max_number}
-use Rattle.sheet.specs.Words.{Word, CommandAt, NumberAt, NameAt, end_of, Letter, Numeral, Called, Stops, Ends, Takes, BeginsWithNumber, BeginsWithNumbers, BeginsWithName}
+use Rattle.sheet.specs.Words.{Word, CommandAt, NumberAt, NameAt, end_of, Letter, Numeral, Called, Stops, StopsAfterNumbers, Takes, BeginsWithNumber, BeginsWithNumbers, BeginsWithName}
 use Rattle.sheet.specs.declared.token.Token.{Token}
 use Rattle.sheet.specs.declared.token.Token.TheVariants.{Name, Number, Command}
 use Rattle.sheet.proofs.Numerals.{digits}
@@ -71,7 +71,7 @@ name_taken sheet at (Name w p) (Some v) stands reads =
 
 -- numbers one after another
 
-pub ends : (ns rest : List ℕ) → Stops IsAsciiDigit rest → Ends ns rest
+pub ends : (ns rest : List ℕ) → Stops IsAsciiDigit rest → StopsAfterNumbers ns rest
 ends [] rest stops = tt
 ends (n ∷ ns) rest stops = stops
 

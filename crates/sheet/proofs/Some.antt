@@ -5,19 +5,19 @@ use Rattle.std.proofs.lemmas.List.{length-replicate}
 use Rattle.lots.proofs.Checks.{Either, less, at_most, equal, both}
 use Rattle.lots.specs.Checks.{Passed}
 use Rattle.lots.specs.Limits.{max_lots}
-use Rattle.lots.specs.Tables.{blank}
+use Rattle.lots.specs.Tables.{blank, Table}
 use Rattle.lots.specs.declared.Lot.{Lot}
 use Rattle.lots.specs.declared.Refusal.{Refusal}
 use Rattle.lots.specs.declared.Refusal.TheVariants as refusal
 use Rattle.rule.specs.Meanings.{Meaning, Sound}
-use Rattle.tree.specs.Answer.{solve_checks}
+use Rattle.tree.specs.Answer.{solve_checks, max_trail}
 use Rattle.tree.proofs.Answers.{solved_some}
-use Rattle.plan.specs.Tables.{Table, empty, with_lot, with_between}
+use Rattle.plan.specs.Tables.{empty, with_lot, with_lot_between}
 use Rattle.plan.proofs.Some.{opened_some, admitted_some, narrowed_some, tightened_some}
 use Rattle.sheet.specs.Desks.{Orderly}
 use Rattle.sheet.specs.Lines.{Line, machine, name, lot, narrow, tighten, solve, written, newline}
 use Rattle.sheet.specs.PrintLines.{narrow_print, tighten_print, solve_print, refusal_print}
-use Rattle.sheet.specs.Runs.{Desk, new_desk, head, Due, MayEnd, max_sheet, whole_sheet, max_commands, max_trail, Runs, Refuses, after, Prints, runs, refused, ninth, PrintOf}
+use Rattle.sheet.specs.Runs.{Desk, new_desk, head, Due, MayEnd, max_sheet, whole_sheet, max_commands, Runs, Refuses, after, Prints, runs, refused, ninth, PrintOf}
 use Rattle.sheet.proofs.Desks.{new_orderly, after_orderly}
 use Rattle.sheet.proofs.Finding.{find_line}
 use Rattle.sheet.proofs.Steps.{no_line, not_due, prints_end}
@@ -63,7 +63,7 @@ module _ (m : Meaning) (sound : Sound m) where
   line_comes D (machine C n) o = elim (opened_some C D.plan) [ inl a ↦ inl (empty C, [], (a, refl)) | inr r ↦ inr r ]
   line_comes D (name w) o = inl (D.plan, [], (refl, refl))
   line_comes D (lot i x) o = elim (admitted_some x D.plan) [ inl a ↦ inl (with_lot x D.plan, [], (length D.plan.lots, a, refl)) | inr r ↦ inr r ]
-  line_comes D (narrow i from to) o = elim (narrowed_some i from to D.plan) [ inl a ↦ inl (with_between i from to D.plan, narrow_print, (a, refl)) | inr r ↦ inr r ]
+  line_comes D (narrow i from to) o = elim (narrowed_some i from to D.plan) [ inl a ↦ inl (with_lot_between i from to D.plan, narrow_print, (a, refl)) | inr r ↦ inr r ]
   line_comes D tighten o = let t = tightened_some m sound D.plan o.lawful in inl (t.0, tighten_print t.1 t.2 D.names t.0.lots, (t.1, t.2, t.3, refl))
   line_comes D (solve B) o = searches D B o
 

@@ -7,15 +7,15 @@ use Rattle.lots.specs.declared.Refusal.{Refusal}
 use Rattle.lots.specs.declared.Refusal.TheVariants as refusal
 use Rattle.rule.specs.Meanings.{Meaning, Sound}
 use Rattle.rule.specs.declared.Verdict.{Verdict}
-use Rattle.tree.specs.Answer.{Solved}
+use Rattle.tree.specs.Answer.{Solved, max_trail}
 use Rattle.tree.specs.declared.Search.{Search}
 use Rattle.plan.specs.Calls.{Tightened}
-use Rattle.plan.specs.Tables.{Table}
+use Rattle.lots.specs.Tables.{Table}
 use Rattle.sheet.specs.Desks.{Orderly, RoomFor}
 use Rattle.sheet.specs.Lines.{Line, tighten, solve, written, newline, BeginsWithLine}
 use Rattle.sheet.specs.Pages.{HasRoom, Adds}
 use Rattle.sheet.specs.PrintLines.{tighten_print, solve_print, refusal_print}
-use Rattle.sheet.specs.Runs.{Desk, new_desk, Due, Begins, MayEnd, Full, min_print, whole_sheet, max_trail, Runs, Searched, Prints, ends, runs, refused, formless}
+use Rattle.sheet.specs.Runs.{Desk, new_desk, Due, BeginsWithDueLine, MayEnd, Full, min_print, whole_sheet, Runs, Searched, Prints, ends, runs, refused, formless}
 use Rattle.sheet.specs.Steps.{Ready, Ran, Took}
 use Rattle.sheet.specs.declared.page.Page.{Page}
 use Rattle.sheet.proofs.Desks.{after_orderly}
@@ -56,7 +56,7 @@ module _ (m : Meaning) (D : Desk) (bs : List ℕ) (goes_on : (bs ≡ []) → May
   not_due l rest b other = formless goes_on (λ k more c. other (subst (Due D) (sym (line_one bs l k rest more b c.0).0) c.1))
 
 -- what came of its first line, where that line was run or refused
-pub took_line : (m : Meaning) (D : Desk) (bs : List ℕ) (l : Line) (rest : List ℕ) (E : Desk) (p q : Page) (r : Result (Unit {0}) Refusal) → Begins D bs l rest → (Full D → ⊥) → Ran m D l E p q r → Took m D bs E rest p q r
+pub took_line : (m : Meaning) (D : Desk) (bs : List ℕ) (l : Line) (rest : List ℕ) (E : Desk) (p q : Page) (r : Result (Unit {0}) Refusal) → BeginsWithDueLine D bs l rest → (Full D → ⊥) → Ran m D l E p q r → Took m D bs E rest p q r
 took_line m D bs l rest E p q (Ok x) b n ran = (l, b, n, ran)
 took_line m D bs l rest E p q (Err e) b n ran = (refused l rest e b n ran.0, ran.1, ran.2)
 

@@ -2,7 +2,7 @@
 use Rattle.std.specs.Prelude.{◌≡◌, ℕ, ◌+◌, ◌-◌, ◌*◌, ◌≤◌, min, length}
 use Rattle.std.specs.List.{AllByRecursion}
 use Rattle.lots.specs.Limits.{max_lots}
-use Rattle.plan.specs.Tables.{LawfulTable}
+use Rattle.lots.specs.Tables.{Lawful}
 use Rattle.sheet.specs.Lines.{max_name}
 use Rattle.sheet.specs.Runs.{Desk, head, max_commands}
 use Rattle.sheet.specs.declared.page.Page.{Page}
@@ -15,7 +15,7 @@ pub record Orderly (D : Desk) : Type 0 where
   pub named : length D.names ≡ min (D.line - 2) D.lots
   pub short : AllByRecursion (λ w. length w ≤ max_name) D.names
   pub admitted : length D.plan.lots ≡ min (D.line - (2 + D.lots)) D.lots
-  pub lawful : LawfulTable D.plan
+  pub lawful : Lawful D.plan.capacity D.plan.lots
 
 -- the most lines of a sheet
 abbrev pub max_lines : ℕ

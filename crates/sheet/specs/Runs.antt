@@ -7,10 +7,11 @@ use Rattle.lots.specs.declared.Refusal.{Refusal}
 use Rattle.lots.specs.declared.Refusal.TheVariants as refusal
 use Rattle.rule.specs.Meanings.{Meaning, Sound}
 use Rattle.rule.specs.declared.Verdict.{Verdict}
-use Rattle.tree.specs.Answer.{trail_cells, Solved}
+use Rattle.tree.specs.Answer.{max_trail, Solved}
 use Rattle.tree.specs.declared.Search.{Search}
 use Rattle.plan.specs.Calls.{Opened, Admitted, Narrowed, Tightened}
-use Rattle.plan.specs.Tables.{Table, empty}
+use Rattle.plan.specs.Tables.{empty}
+use Rattle.lots.specs.Tables.{Table}
 use Rattle.sheet.specs.Lines.{Line, machine, name, lot, narrow, tighten, solve, BeginsWithLine}
 use Rattle.sheet.specs.PrintLines.{narrow_print, tighten_print, solve_print, refusal_print}
 
@@ -51,8 +52,8 @@ Due D (lot i x) = (1 + D.lots < D.line) × (D.line ≤ head D.lots) × (i ≡ D.
 Due D l = head D.lots < D.line
 
 -- the bytes begin with a line that is due, and `rest` comes after it
-abbrev pub Begins : Desk → List ℕ → Line → List ℕ → Type 0
-Begins D bs l rest = BeginsWithLine bs l rest × Due D l
+abbrev pub BeginsWithDueLine : Desk → List ℕ → Line → List ℕ → Type 0
+BeginsWithDueLine D bs l rest = BeginsWithLine bs l rest × Due D l
 
 -- the sheet may end here: every lot is in
 abbrev pub MayEnd : Desk → Type 0
@@ -61,10 +62,6 @@ MayEnd D = head D.lots < D.line
 -- all commands that a sheet may have were run
 abbrev pub Full : Desk → Type 0
 Full D = head D.lots + max_commands < D.line
-
--- the cells of a trail that serves every table
-abbrev pub max_trail : ℕ
-max_trail = trail_cells max_lots
 
 -- a search of the plan under the budget B, with a trail and a place for starts that serve every table; us is what the place holds after
 abbrev pub Searched : Meaning → Table → ℕ → List ℕ → Result Search Refusal → Type 0
@@ -91,17 +88,17 @@ Refuses m D (solve B) e = (us : List ℕ) × Searched m D.plan B us (Err e)
 
 -- what is known after the line, which has left the plan Q
 abbrev pub after : Desk → Line → Table → Desk
-after D (machine C n) Q = record { line = suc D.line; lots = n; names = []; plan = Q }
-after D (name w) Q = record { line = suc D.line; lots = D.lots; names = D.names ++ w ∷ []; plan = Q }
-after D l Q = record { line = suc D.line; lots = D.lots; names = D.names; plan = Q }
+after D (machine C n) Q = record D { line = suc D.line; lots = n; names = []; plan = Q }
+after D (name w) Q = record D { line = suc D.line; names = D.names ++ w ∷ []; plan = Q }
+after D l Q = record D { line = suc D.line; plan = Q }
 
 -- the lines bs, from the one that is due at the desk D on, print out
 pub data Prints (m : Meaning) : Desk → List ℕ → List ℕ → Type 0 where
   ends : {D : Desk} → MayEnd D → Prints m D [] []
-  runs : {D : Desk} {bs rest : List ℕ} (l : Line) (Q : Table) (out more : List ℕ) → Begins D bs l rest → (Full D → ⊥) → Runs m D l Q out → Prints m (after D l Q) rest more → Prints m D bs (out ++ more)
-  refused : {D : Desk} {bs : List ℕ} (l : Line) (rest : List ℕ) (e : Refusal) → Begins D bs l rest → (Full D → ⊥) → Refuses m D l e → Prints m D bs (refusal_print e D.line)
-  ninth : {D : Desk} {bs : List ℕ} (l : Line) (rest : List ℕ) → Begins D bs l rest → Full D → Prints m D bs (refusal_print refusal.Commands D.line)
-  formless : {D : Desk} {bs : List ℕ} → ((bs ≡ []) → MayEnd D → ⊥) → ((l : Line) (rest : List ℕ) → Begins D bs l rest → ⊥) → Prints m D bs (refusal_print refusal.Line D.line)
+  runs : {D : Desk} {bs rest : List ℕ} (l : Line) (Q : Table) (out more : List ℕ) → BeginsWithDueLine D bs l rest → (Full D → ⊥) → Runs m D l Q out → Prints m (after D l Q) rest more → Prints m D bs (out ++ more)
+  refused : {D : Desk} {bs : List ℕ} (l : Line) (rest : List ℕ) (e : Refusal) → BeginsWithDueLine D bs l rest → (Full D → ⊥) → Refuses m D l e → Prints m D bs (refusal_print e D.line)
+  ninth : {D : Desk} {bs : List ℕ} (l : Line) (rest : List ℕ) → BeginsWithDueLine D bs l rest → Full D → Prints m D bs (refusal_print refusal.Commands D.line)
+  formless : {D : Desk} {bs : List ℕ} → ((bs ≡ []) → MayEnd D → ⊥) → ((l : Line) (rest : List ℕ) → BeginsWithDueLine D bs l rest → ⊥) → Prints m D bs (refusal_print refusal.Line D.line)
 
 -- the print of a sheet
 abbrev pub PrintOf : Meaning → List ℕ → List ℕ → Type 0

@@ -2,10 +2,10 @@
 use Rattle.std.specs.Prelude.{◌≡◌, ℕ, List, Ok, Err, Result}
 use Rattle.lots.specs.declared.Refusal.{Refusal}
 use Rattle.rule.specs.Meanings.{Meaning}
-use Rattle.plan.specs.Tables.{Table}
+use Rattle.lots.specs.Tables.{Table}
 use Rattle.sheet.specs.Lines.{Line, Bounded}
 use Rattle.sheet.specs.PrintLines.{refusal_print}
-use Rattle.sheet.specs.Runs.{Desk, Due, Begins, Full, Runs, Refuses, after, Prints}
+use Rattle.sheet.specs.Runs.{Desk, Due, BeginsWithDueLine, Full, Runs, Refuses, after, Prints}
 use Rattle.sheet.specs.Desks.{Orderly, RoomFor}
 use Rattle.sheet.specs.Pages.{Adds}
 use Rattle.sheet.specs.declared.page.Page.{Page}
@@ -25,5 +25,5 @@ Ran m D l E p q (Err e) = Refuses m D l e × (E ≡ D) × (q ≡ p)
 
 -- so of the first line of the bytes bs, after which `rest` comes; or the print ends with a refusal, which is still to be printed
 abbrev pub Took : Meaning → Desk → List ℕ → Desk → List ℕ → Page → Page → Result (Unit {0}) Refusal → Type 0
-Took m D bs E rest p q (Ok x) = (l : Line) × Begins D bs l rest × (Full D → ⊥) × Ran m D l E p q (Ok x)
+Took m D bs E rest p q (Ok x) = (l : Line) × BeginsWithDueLine D bs l rest × (Full D → ⊥) × Ran m D l E p q (Ok x)
 Took m D bs E rest p q (Err e) = Prints m D bs (refusal_print e D.line) × (E ≡ D) × (q ≡ p)

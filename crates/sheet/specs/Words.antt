@@ -71,26 +71,26 @@ Stops P [] = Unit {0}
 Stops P (b ∷ bs) = P b → ⊥
 
 -- the bytes after the line go on neither with its name nor with its last number
-abbrev pub Follows : Line → List ℕ → Type 0
-Follows (name w) rest = Stops Printable rest
-Follows tighten rest = Unit {0}
-Follows l rest = Stops IsAsciiDigit rest
+abbrev pub StopsAfter : Line → List ℕ → Type 0
+StopsAfter (name w) rest = Stops Printable rest
+StopsAfter tighten rest = Unit {0}
+StopsAfter l rest = Stops IsAsciiDigit rest
 
 -- the letter and the bytes after it begin with a line that is not yet ended
 abbrev pub BeginsBy : ℕ → List ℕ → Line → List ℕ → Type 0
-BeginsBy letter bs l rest = (letter ∷ bs ≡ written l ++ rest) × Bounded l × Follows l rest
+BeginsBy letter bs l rest = (letter ∷ bs ≡ written l ++ rest) × Bounded l × StopsAfter l rest
 
 abbrev pub BeginsWithNumber : List ℕ → ℕ → List ℕ → Type 0
 BeginsWithNumber bs n rest = (bs ≡ numbers (n ∷ []) ++ rest) × (n ≤ max_budget) × Stops IsAsciiDigit rest
 
 -- no digit comes after the last of the numbers
-abbrev pub Ends : List ℕ → List ℕ → Type 0
-Ends [] rest = Unit {0}
-Ends (n ∷ ns) rest = Stops IsAsciiDigit rest
+abbrev pub StopsAfterNumbers : List ℕ → List ℕ → Type 0
+StopsAfterNumbers [] rest = Unit {0}
+StopsAfterNumbers (n ∷ ns) rest = Stops IsAsciiDigit rest
 
 abbrev pub BeginsWithNumbers : ℕ → List ℕ → List ℕ → List ℕ → Type 0
 BeginsWithNumbers count bs ns rest =
-    (bs ≡ numbers ns ++ rest) × (length ns ≡ count) × AllByRecursion (λ n. n ≤ max_number) ns × Ends ns rest
+    (bs ≡ numbers ns ++ rest) × (length ns ≡ count) × AllByRecursion (λ n. n ≤ max_number) ns × StopsAfterNumbers ns rest
 
 abbrev pub BeginsWithName : List ℕ → List ℕ → List ℕ → Type 0
 BeginsWithName bs w rest = (bs ≡ codes " " ++ (w ++ rest)) × Named w × Stops Printable rest

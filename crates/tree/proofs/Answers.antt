@@ -9,7 +9,7 @@ use Rattle.lots.specs.Schedules.{Placed, end}
 use Rattle.lots.specs.Tables.{blank, LawfulLot, Lawful}
 use Rattle.lots.specs.declared.Lot.{Lot}
 use Rattle.rule.specs.Meanings.{Meaning, Sound}
-use Rattle.tree.specs.Tree.{BestKnown, unknown, known, Visit, final}
+use Rattle.tree.specs.Tree.{BestKnown, unknown, known, Visit, last_known}
 use Rattle.tree.specs.Answer.{solve_checks, Told, Solved}
 use Rattle.tree.specs.declared.Search.{Search}
 use Rattle.tree.specs.declared.Search.TheVariants.{Best, None, Spent}
@@ -71,7 +71,7 @@ module _ (m : Meaning) (sound : Sound m) (C : ℕ) (T : List Lot) (ok : Lawful C
   abbrev Tells : ℕ → List BestKnown → List ℕ → Type 0
   Tells n bs ss = (us : List ℕ) × (a : Search) × Told n B bs ss us a
 
-  tells : (bs : List BestKnown) → Visit m C unknown T bs → (ss : List ℕ) → length T ≤ length ss → length bs ≤ B → (b : BestKnown) → final unknown bs ≡ b → Tells (length T) bs ss
+  tells : (bs : List BestKnown) → Visit m C unknown T bs → (ss : List ℕ) → length T ≤ length ss → length bs ≤ B → (b : BestKnown) → last_known unknown bs ≡ b → Tells (length T) bs ss
   tells bs v ss room within unknown is = (ss, None (length bs), (refl, within, is, refl))
   tells bs v ss room within (known ts e) is =
       let count : length ts ≡ length T = found_length m sound C T ok bs v ts e is in
@@ -87,6 +87,6 @@ module _ (m : Meaning) (sound : Sound m) (C : ℕ) (T : List Lot) (ok : Lawful C
       elim (cases_lt B (length visit.0)) [
         | inl spent ↦ (ss, Spent B, (passed, (refl, (visit.0, visit.1, (refl, spent, refl)))))
         | inr within ↦
-            let told = tells visit.0 visit.1 ss (omega (arith, passed.1.1.0)) within (final unknown visit.0) refl in
+            let told = tells visit.0 visit.1 ss (omega (arith, passed.1.1.0)) within (last_known unknown visit.0) refl in
             (told.0, told.1, (passed, (refl, (visit.0, visit.1, told.2))))
       ]

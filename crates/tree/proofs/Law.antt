@@ -8,18 +8,18 @@ use Rattle.lots.specs.declared.Lot.{Lot}
 use Rattle.rule.specs.Meanings.{Meaning, Outcome, dead, to, Sound}
 use Rattle.rule.proofs.Chains.{narrower_keeps}
 use Rattle.rule.proofs.Schedules.{end_same}
-use Rattle.tree.specs.Tree.{ways, BestKnown, known, EndsBy, Leaves, Fixed, starts, Branch, left, right, Closes, barren, overfull, found, Visit, leaf, fork, final, Falling, Optimal, TreeLaw}
+use Rattle.tree.specs.Tree.{ways, BestKnown, known, EndsBy, Leaves, Fixed, earliest_starts, Branch, left, right, Closes, barren, above_capacity, found, Visit, leaf, fork, last_known, Falling, Optimal, TreeLaw}
 use Rattle.tree.proofs.Ways.{ways_some, ways_fewer, to_the_end, left_lawful, right_lawful, left_work, right_work, left_narrower, right_narrower, ways_parts, parts, fixed_placed, fixed_only, fixed_or_branch}
 use Rattle.tree.proofs.Nodes.{Below, below_trans, ends_by_or_not, Remains, leaves_remains, leaves_dead}
 use Rattle.tree.proofs.Outcomes.{leaves_some}
 use Rattle.tree.proofs.Once.{visit_same}
 
 -- one list of bests after the other
-pub final_append : (b : BestKnown) (ls rs : List BestKnown) → final b (ls ++ rs) ≡ final (final b ls) rs
+pub final_append : (b : BestKnown) (ls rs : List BestKnown) → last_known b (ls ++ rs) ≡ last_known (last_known b ls) rs
 final_append b [] rs = refl
 final_append b (x ∷ xs) rs = final_append x xs rs
 
-falling_append : (b : BestKnown) (ls rs : List BestKnown) → Falling b ls → Falling (final b ls) rs → Falling b (ls ++ rs)
+falling_append : (b : BestKnown) (ls rs : List BestKnown) → Falling b ls → Falling (last_known b ls) rs → Falling b (ls ++ rs)
 falling_append b [] rs p q = q
 falling_append b (x ∷ xs) rs p q = (p.0, falling_append x xs rs p.1 q)
 
@@ -52,10 +52,10 @@ module _ (C : ℕ) (b : BestKnown) (T U : List Lot) (r : Remains C b T U) where
 
   -- every lot of U has one start left
   module _ (f : Fixed U) where
-    fixed_starts : Placed U (starts U)
+    fixed_starts : Placed U (earliest_starts U)
     fixed_starts = fixed_placed C U r.below.lawful.each f
 
-    overfull_optimal : (t : ℕ) → C < load t U (starts U) → Optimal C T b b
+    overfull_optimal : (t : ℕ) → C < load t U (earliest_starts U) → Optimal C T b b
     overfull_optimal t o = nothing_better C T b (λ ss s. elim (lost_or_kept ss s) [
       | inl h ↦ h
       | inr q ↦
@@ -63,21 +63,21 @@ module _ (C : ℕ) (b : BestKnown) (T U : List Lot) (r : Remains C b T U) where
           absurd (omega (arith, subst (λ us. load t U us ≤ C) e (q.within t)))
     ])
 
-    module _ (w : (t : ℕ) → load t U (starts U) ≤ C) where
-      found_here : Schedule C T (starts U)
-      found_here = narrower_keeps C T U r.below.work r.below.narrower (starts U) (record { placed = fixed_starts; within = w })
+    module _ (w : (t : ℕ) → load t U (earliest_starts U) ≤ C) where
+      found_here : Schedule C T (earliest_starts U)
+      found_here = narrower_keeps C T U r.below.work r.below.narrower (earliest_starts U) (record { placed = fixed_starts; within = w })
 
-      found_no_later : (k : ℕ) → EndsBy b k → end U (starts U) ≤ k
-      found_no_later k h = omega (arith, r.ends (starts U) fixed_starts k h, end_same T U (starts U) r.below.work)
+      found_no_later : (k : ℕ) → EndsBy b k → end U (earliest_starts U) ≤ k
+      found_no_later k h = omega (arith, r.ends (earliest_starts U) fixed_starts k h, end_same T U (earliest_starts U) r.below.work)
 
-      found_least : (ss : List ℕ) → Schedule C U ss → end U (starts U) ≤ end T ss
+      found_least : (ss : List ℕ) → Schedule C U ss → end U (earliest_starts U) ≤ end T ss
       found_least ss s =
           let e = fixed_only C U ss r.below.lawful.each f s.placed in
           omega (arith, ap (end U) e, end_same T U ss r.below.work)
 
-      found_optimal : Optimal C T b (known (starts U) (end U (starts U)))
+      found_optimal : Optimal C T b (known (earliest_starts U) (end U (earliest_starts U)))
       found_optimal = record {
-        source = inr (starts U, ap (known (starts U)) (end_same T U (starts U) r.below.work), found_here);
+        source = inr (earliest_starts U, ap (known (earliest_starts U)) (end_same T U (earliest_starts U) r.below.work), found_here);
         no_later = found_no_later;
         least = λ ss s. elim (lost_or_kept ss s) [ inl h ↦ found_no_later (end T ss) h | inr q ↦ found_least ss q ];
       }
@@ -136,9 +136,9 @@ module _ (m : Meaning) (sound : Sound m) (C : ℕ) where
   Visited b T = (bs : List BestKnown) × Visit m C b T bs
 
   visit_fixed : (b : BestKnown) (T U : List Lot) → Leaves m C b T (to U) → Fixed U → Visited b T
-  visit_fixed b T U n f = elim (full_or_within C U (starts U)) [
-    | inl p ↦ (b ∷ [], leaf (overfull p.0 n f p.1))
-    | inr w ↦ (known (starts U) (end U (starts U)) ∷ [], leaf (found n f w))
+  visit_fixed b T U n f = elim (full_or_within C U (earliest_starts U)) [
+    | inl p ↦ (b ∷ [], leaf (above_capacity p.0 n f p.1))
+    | inr w ↦ (known (earliest_starts U) (end U (earliest_starts U)) ∷ [], leaf (found n f w))
   ]
 
   visit_node : (b : BestKnown) (T : List Lot) → Lawful C T → (o : Outcome) → Leaves m C b T o → ((a : BestKnown) (U : List Lot) → Lawful C U → ways U < ways T → Visited a U) → Visited b T
@@ -148,7 +148,7 @@ module _ (m : Meaning) (sound : Sound m) (C : ℕ) where
     | inr (j, br) ↦
         let fewer = ways_below b T U ok n j br in
         let l = go b (left j U) (left_below b T U ok n j br).lawful (omega (arith, ways_some (right j U))) in
-        let r = go (final b l.0) (right j U) (right_below b T U ok n j br).lawful (omega (arith, ways_some (left j U))) in
+        let r = go (last_known b l.0) (right j U) (right_below b T U ok n j br).lawful (omega (arith, ways_some (left j U))) in
         (b ∷ (l.0 ++ r.0), fork j n br l.1 r.1)
   ]
 
@@ -172,15 +172,15 @@ module _ (m : Meaning) (sound : Sound m) (C : ℕ) where
   -- it finds the best
   closes_optimal : (b a : BestKnown) (T : List Lot) → Lawful C T → Closes m C b T a → Optimal C T b a
   closes_optimal b _ T ok (barren n) = nothing_better C T b (leaves_dead m sound C b T ok n)
-  closes_optimal b _ T ok (overfull {U} t n f o) = overfull_optimal C b T U (leaves_remains m sound C b T U ok n) f t o
+  closes_optimal b _ T ok (above_capacity {U} t n f o) = overfull_optimal C b T U (leaves_remains m sound C b T U ok n) f t o
   closes_optimal b _ T ok (found {U} n f w) = found_optimal C b T U (leaves_remains m sound C b T U ok n) f w
 
-  pub visit_optimal : {b : BestKnown} {T : List Lot} {bs : List BestKnown} → Visit m C b T bs → Lawful C T → Optimal C T b (final b bs)
+  pub visit_optimal : {b : BestKnown} {T : List Lot} {bs : List BestKnown} → Visit m C b T bs → Lawful C T → Optimal C T b (last_known b bs)
   visit_optimal (leaf {b} {a} {T} h) ok = closes_optimal b a T ok h
   visit_optimal (fork {b} {T} {U} {ls} {rs} j n br p q) ok =
       let l = visit_optimal p (left_below b T U ok n j br).lawful in
       let r = visit_optimal q (right_below b T U ok n j br).lawful in
-      subst (Optimal C T b) (sym (final_append b ls rs)) (fork_optimal b T U ok n j br (final b ls) (final (final b ls) rs) l r)
+      subst (Optimal C T b) (sym (final_append b ls rs)) (fork_optimal b T U ok n j br (last_known b ls) (last_known (last_known b ls) rs) l r)
 
   pub visit_falling : {b : BestKnown} {T : List Lot} {bs : List BestKnown} → Visit m C b T bs → Lawful C T → Falling b bs
   visit_falling (leaf {b} {a} {T} h) ok = ((closes_optimal b a T ok h).no_later, tt)

@@ -7,13 +7,13 @@ use Rattle.lots.specs.Limits.{horizon}
 use Rattle.lots.specs.Schedules.{spans, load, end}
 use Rattle.lots.specs.Tables.{ect, LawfulLot}
 use Rattle.lots.specs.declared.Lot.{Lot}
-use Rattle.tree.specs.Tree.{starts}
+use Rattle.tree.specs.Tree.{earliest_starts}
 
-end_from : (m : ℕ) (T : List Lot) → fold max m (map ect T) ≡ max m (end T (starts T))
+end_from : (m : ℕ) (T : List Lot) → fold max m (map ect T) ≡ max m (end T (earliest_starts T))
 end_from m [] = omega arith
 end_from m (x ∷ xs) = omega (arith, end_from (max m (ect x)) xs)
 
-pub end_is : (T : List Lot) → unwrap_or (reduce max (map ect T)) 0 ≡ end T (starts T)
+pub end_is : (T : List Lot) → unwrap_or (reduce max (map ect T)) 0 ≡ end T (earliest_starts T)
 end_is [] = refl
 end_is (x ∷ xs) = end_from (ect x) xs
 
@@ -27,11 +27,11 @@ start_least [] = tt
 start_least (x ∷ xs) = start_from x.est xs
 
 -- nothing runs before the first lot goes in
-pub load_before : (t s : ℕ) (T : List Lot) → AllByRecursion (λ x. s ≤ x.est) T → t < s → load t T (starts T) ≡ 0
+pub load_before : (t s : ℕ) (T : List Lot) → AllByRecursion (λ x. s ≤ x.est) T → t < s → load t T (earliest_starts T) ≡ 0
 load_before t s [] first h = refl
 load_before t s (x ∷ xs) first h = let none : spans x.est (ect x) t ≡ false = grind (arith, nat_tests, first.0) in rw none (omega (arith, load_before t s xs first.1 h))
 
 -- every lot is out by the end of the week
-pub end_in_week : (C : ℕ) (T : List Lot) → AllByRecursion (LawfulLot C) T → end T (starts T) ≤ horizon
+pub end_in_week : (C : ℕ) (T : List Lot) → AllByRecursion (LawfulLot C) T → end T (earliest_starts T) ≤ horizon
 end_in_week C [] ok = omega arith
 end_in_week C (x ∷ xs) ok = omega (arith, end_in_week C xs ok.1, ok.0.has_time, ok.0.in_week)

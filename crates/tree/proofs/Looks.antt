@@ -13,7 +13,7 @@ use Rattle.rule.specs.Settled.{none, Settled, Settles}
 use Rattle.rule.specs.declared.Verdict.{Verdict}
 use Rattle.rule.specs.declared.Verdict.TheVariants.{Still, Moved, Dead}
 use Rattle.rule.proofs.Chains.{settled_kept}
-use Rattle.tree.specs.Tree.{BestKnown, known, under, ComesTo, Leaves, late, tight, Fixed, starts, HasChoice, Closes, barren, overfull, found}
+use Rattle.tree.specs.Tree.{BestKnown, known, under, ComesTo, Leaves, late, tight, Fixed, earliest_starts, HasChoice, Closes, barren, above_capacity, found}
 use Rattle.tree.proofs.Nodes.{under_below}
 
 -- whether each run fits, as `all` answers it
@@ -55,8 +55,8 @@ module _ (m : Meaning) (sound : Sound m) (C : ℕ) (b : BestKnown) (T V : List L
       alive_leaves = tight (subst Fits cut fits) (subst (λ W. ComesTo m C W (to U)) cut (settled_to m C V U v k alive s))
 
       module _ (fixed : (j : ℕ) → j < length U → HasChoice (lot_at U j) → ⊥) where
-        pub alive_found : (ss : List ℕ) (e : ℕ) → ss ≡ starts U → e ≡ end U (starts U) → ((t : ℕ) → load t U (starts U) ≤ C) → Closes m C b T (known ss e)
+        pub alive_found : (ss : List ℕ) (e : ℕ) → ss ≡ earliest_starts U → e ≡ end U (earliest_starts U) → ((t : ℕ) → load t U (earliest_starts U) ≤ C) → Closes m C b T (known ss e)
         alive_found ss e same ends within = subst (Closes m C b T) (sym (ap₂ known same ends)) (found alive_leaves (none_free C U alive_lawful fixed) within)
 
-        pub alive_overfull : (t : ℕ) × (C < load t U (starts U)) → Closes m C b T b
-        alive_overfull (t, over) = overfull t alive_leaves (none_free C U alive_lawful fixed) over
+        pub alive_overfull : (t : ℕ) × (C < load t U (earliest_starts U)) → Closes m C b T b
+        alive_overfull (t, over) = above_capacity t alive_leaves (none_free C U alive_lawful fixed) over

@@ -11,7 +11,7 @@ use Rattle.rule.specs.Meanings.{Meaning, Outcome, dead, to, Gives, Dies, SameWor
 use Rattle.rule.proofs.Chains.{Chain, still, dies, Kept, placed_back, chain_kept, chain_dead, moves_then}
 use Rattle.rule.proofs.Schedules.{schedule_same}
 use Rattle.rule.specs.Laws.Tables.{same_work_refl, same_work_trans, narrower_refl, narrower_trans}
-use Rattle.tree.specs.Tree.{BestKnown, unknown, known, EndsBy, out_by, under, ComesTo, Leaves, late, tight}
+use Rattle.tree.specs.Tree.{BestKnown, unknown, known, EndsBy, lot_out_by, under, ComesTo, Leaves, late, tight}
 
 -- U is lawful and of the same work as T, and no window is wider
 pub record Below (C : ℕ) (T U : List Lot) : Type 0 where
@@ -30,34 +30,34 @@ pub kept_below : (C : ℕ) (T U : List Lot) → Kept C T U → Below C T U
 kept_below C T U k = record { lawful = k.lawful; work = k.work; narrower = k.narrower }
 
 -- the lots, out by d
-out_work : (d : ℕ) (T : List Lot) → SameWork T (map (out_by d) T)
+out_work : (d : ℕ) (T : List Lot) → SameWork T (map (lot_out_by d) T)
 out_work d [] = tt
 out_work d (x ∷ xs) = ((refl, refl), out_work d xs)
 
-out_narrower : (d : ℕ) (T : List Lot) → Narrower T (map (out_by d) T)
+out_narrower : (d : ℕ) (T : List Lot) → Narrower T (map (lot_out_by d) T)
 out_narrower d [] = tt
 out_narrower d (x ∷ xs) = (omega arith, out_narrower d xs)
 
-out_each : (C d : ℕ) (T : List Lot) → AllByRecursion (LawfulLot C) T → Fits (map (out_by d) T) → AllByRecursion (LawfulLot C) (map (out_by d) T)
+out_each : (C d : ℕ) (T : List Lot) → AllByRecursion (LawfulLot C) T → Fits (map (lot_out_by d) T) → AllByRecursion (LawfulLot C) (map (lot_out_by d) T)
 out_each C d [] ok h = tt
 out_each C d (x ∷ xs) ok h = (omega arith, out_each C d xs ok.1 h.1)
 
-out_lawful : (C d : ℕ) (T : List Lot) → Lawful C T → Fits (map (out_by d) T) → Lawful C (map (out_by d) T)
+out_lawful : (C d : ℕ) (T : List Lot) → Lawful C T → Fits (map (lot_out_by d) T) → Lawful C (map (lot_out_by d) T)
 out_lawful C d T ok h = record {
   some_trays = ok.some_trays;
   few_trays = ok.few_trays;
-  few_lots = omega (arith, length-map T (out_by d), ok.few_lots);
+  few_lots = omega (arith, length-map T (lot_out_by d), ok.few_lots);
   each = out_each C d T ok.each h;
 }
 
 -- the starts of T that end by d are those of the lots out by d
-out_placed : (d : ℕ) (T : List Lot) (ss : List ℕ) → Placed T ss → end T ss ≤ d → Placed (map (out_by d) T) ss
+out_placed : (d : ℕ) (T : List Lot) (ss : List ℕ) → Placed T ss → end T ss ≤ d → Placed (map (lot_out_by d) T) ss
 out_placed d [] [] p h = tt
 out_placed d [] (s ∷ ss) p h = absurd p
 out_placed d (x ∷ xs) [] p h = absurd p
 out_placed d (x ∷ xs) (s ∷ ss) p h = (omega arith, out_placed d xs ss p.1 (omega arith))
 
-out_end : (d : ℕ) (T : List Lot) (ss : List ℕ) → Placed (map (out_by d) T) ss → end T ss ≤ d
+out_end : (d : ℕ) (T : List Lot) (ss : List ℕ) → Placed (map (lot_out_by d) T) ss → end T ss ≤ d
 out_end d [] ss p = omega arith
 out_end d (x ∷ xs) [] p = absurd p
 out_end d (x ∷ xs) (s ∷ ss) p = omega (arith, out_end d xs ss p.1)

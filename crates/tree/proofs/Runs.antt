@@ -6,7 +6,7 @@ use Rattle.lots.specs.Tables.{Lawful}
 use Rattle.lots.specs.declared.Lot.{Lot}
 use Rattle.rule.specs.Meanings.{Meaning, Sound}
 use Rattle.tree.specs.Stack.{tables, Standing, Advances, Stopped}
-use Rattle.tree.specs.Tree.{BestKnown, unknown, Visit, final}
+use Rattle.tree.specs.Tree.{BestKnown, unknown, Visit, last_known}
 use Rattle.tree.proofs.Cells.{tables_count}
 use Rattle.tree.proofs.Law.{final_append, visit_some, visit_short}
 use Rattle.tree.proofs.Stacks.{free_most, Pending, done, next, pending_step, standing_on}
@@ -15,7 +15,7 @@ use Rattle.tree.proofs.Stacks.{free_most, Pending, done, next, pending_step, sta
 pub record Searching (m : Meaning) (C : ℕ) (T : List Lot) (b : BestKnown) (Ts : List (List Lot)) (k : ℕ) : Type 0 where
   pub visited : List BestKnown
   pub count : length visited ≡ k
-  pub best : final unknown visited ≡ b
+  pub best : last_known unknown visited ≡ b
   pub rest : (rs : List BestKnown) → Pending m C b Ts rs → Visit m C unknown T (visited ++ rs)
 
 module _ (m : Meaning) (C : ℕ) (T : List Lot) where
@@ -33,7 +33,7 @@ module _ (m : Meaning) (C : ℕ) (T : List Lot) where
     rest = λ rs p. subst (Visit m C unknown T) (sym (append_assoc s.visited (a ∷ []) rs)) (s.rest (a ∷ rs) (pending_step m C rs step p));
   }
 
-  searching_end : (b : BestKnown) (k : ℕ) → Searching m C T b [] k → (bs : List BestKnown) × Visit m C unknown T bs × (k ≡ length bs) × (final unknown bs ≡ b)
+  searching_end : (b : BestKnown) (k : ℕ) → Searching m C T b [] k → (bs : List BestKnown) × Visit m C unknown T bs × (k ≡ length bs) × (last_known unknown bs ≡ b)
   searching_end b k s = (s.visited, subst (Visit m C unknown T) (append-nil s.visited) (s.rest [] done), sym s.count, s.best)
 
 module _ (m : Meaning) (sound : Sound m) (C n : ℕ) where
@@ -41,7 +41,7 @@ module _ (m : Meaning) (sound : Sound m) (C n : ℕ) where
   pending_some b [] s = ([], done)
   pending_some b (T ∷ Ts) s =
       let v = visit_some m sound C b T s.0.0 in
-      let r = pending_some (final b v.0) Ts s.1 in
+      let r = pending_some (last_known b v.0) Ts s.1 in
       (v.0 ++ r.0, next v.1 r.1)
 
   -- an unvisited node is one more

@@ -6,7 +6,7 @@ use Rattle.lots.specs.Tables.{ect, lst, lot_at, Lawful}
 use Rattle.lots.specs.declared.Lot.{Lot}
 use Rattle.rule.specs.Meanings.{Meaning, to, SameWork, Narrower, Sound}
 use Rattle.tree.specs.Stack.{free, Standing, Advances, closing, forking}
-use Rattle.tree.specs.Tree.{BestKnown, Leaves, HasChoice, Branch, left, right, Visit, leaf, fork, final}
+use Rattle.tree.specs.Tree.{BestKnown, Leaves, HasChoice, Branch, left, right, Visit, leaf, fork, last_known}
 use Rattle.tree.proofs.Ways.{right_work, right_narrower}
 use Rattle.tree.proofs.Nodes.{leaves_remains}
 use Rattle.tree.proofs.Law.{left_below, right_below, final_append}
@@ -56,14 +56,14 @@ module _ (m : Meaning) (sound : Sound m) (C : ℕ) where
 -- the visits of the unvisited nodes, one after another
 pub data Pending (m : Meaning) (C : ℕ) : BestKnown → List (List Lot) → List BestKnown → Type 0 where
   done : {b : BestKnown} → Pending m C b [] []
-  next : {b : BestKnown} {T : List Lot} {Ts : List (List Lot)} {bs cs : List BestKnown} → Visit m C b T bs → Pending m C (final b bs) Ts cs → Pending m C b (T ∷ Ts) (bs ++ cs)
+  next : {b : BestKnown} {T : List Lot} {Ts : List (List Lot)} {bs cs : List BestKnown} → Visit m C b T bs → Pending m C (last_known b bs) Ts cs → Pending m C b (T ∷ Ts) (bs ++ cs)
 
 -- to visit one node is one step of what is left
 pub pending_step : (m : Meaning) (C : ℕ) {b a : BestKnown} {Ts Us : List (List Lot)} (rs : List BestKnown) → Advances m C b Ts a Us → Pending m C a Us rs → Pending m C b Ts (a ∷ rs)
 pending_step m C rs (closing h) p = next (leaf h) p
 pending_step m C rs (forking {b} {T} {U} {Ts} j k br) p = left_first rs p
   where
-    then_right : (ls cs : List BestKnown) → Visit m C b (left j U) ls → Pending m C (final b ls) (right j U ∷ Ts) cs → Pending m C b (T ∷ Ts) (b ∷ (ls ++ cs))
+    then_right : (ls cs : List BestKnown) → Visit m C b (left j U) ls → Pending m C (last_known b ls) (right j U ∷ Ts) cs → Pending m C b (T ∷ Ts) (b ∷ (ls ++ cs))
     then_right ls cs v (next {bs = us} {cs = vs} w q) =
         subst (λ rs. Pending m C b (T ∷ Ts) (b ∷ rs)) (append_assoc ls us vs)
         (next (fork j k br v w) (subst (λ a. Pending m C a Ts vs) (sym (final_append b ls us)) q))

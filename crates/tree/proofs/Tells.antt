@@ -4,7 +4,7 @@ use Rattle.lots.specs.Schedules.{end, Placed, Schedule, BestSchedule}
 use Rattle.lots.specs.Tables.{Lawful}
 use Rattle.lots.specs.declared.Lot.{Lot}
 use Rattle.rule.specs.Meanings.{Meaning, Sound, Hopeless}
-use Rattle.tree.specs.Tree.{ways, BestKnown, unknown, known, Visit, final, Optimal}
+use Rattle.tree.specs.Tree.{ways, BestKnown, unknown, known, Visit, last_known, Optimal}
 use Rattle.tree.proofs.Law.{tree_law}
 
 -- a best schedule, from what a whole visit finds
@@ -29,11 +29,11 @@ module _ (m : Meaning) (sound : Sound m) (C : ℕ) (T : List Lot) (ok : Lawful C
   pub few_nodes : (k : ℕ) → k ≤ length bs → k ≤ 2 * ways T - 1
   few_nodes k h = omega (arith, (tree_law m sound C unknown T ok).short bs v)
 
-  pub unknown_hopeless : final unknown bs ≡ unknown → Hopeless C T
+  pub unknown_hopeless : last_known unknown bs ≡ unknown → Hopeless C T
   unknown_hopeless f = (subst (Optimal C T unknown) f ((tree_law m sound C unknown T ok).optimal bs v)).least
 
-  pub found_best : (us : List ℕ) (e : ℕ) → final unknown bs ≡ known us e → BestSchedule C T e us
+  pub found_best : (us : List ℕ) (e : ℕ) → last_known unknown bs ≡ known us e → BestSchedule C T e us
   found_best us e f = known_best C T us e (subst (Optimal C T unknown) f ((tree_law m sound C unknown T ok).optimal bs v))
 
-  pub found_length : (us : List ℕ) (e : ℕ) → final unknown bs ≡ known us e → length us ≡ length T
+  pub found_length : (us : List ℕ) (e : ℕ) → last_known unknown bs ≡ known us e → length us ≡ length T
   found_length us e f = placed_length T us (found_best us e f).schedule.placed

@@ -12,7 +12,7 @@ use Rattle.lots.specs.declared.Lot.{Lot}
 use Rattle.rule.specs.Meanings.{SameWork, Narrower}
 use Rattle.rule.proofs.Schedules.{schedule_same}
 use Rattle.rule.specs.Laws.Tables.{each_refl}
-use Rattle.tree.specs.Tree.{ways, Fixed, starts, HasChoice, Branch, at_once, a_minute_later, left, right}
+use Rattle.tree.specs.Tree.{ways, Fixed, earliest_starts, HasChoice, Branch, at_once, a_minute_later, left, right}
 
 pub ways_some : (T : List Lot) → 1 ≤ ways T
 ways_some [] = omega arith
@@ -109,11 +109,11 @@ module _ (C : ℕ) (U : List Lot) (ok : Lawful C U) (j : ℕ) (b : Branch U j) w
   ]
 
 -- where every lot has one start left, the starts are these and no others
-pub fixed_placed : (C : ℕ) (U : List Lot) → AllByRecursion (LawfulLot C) U → Fixed U → Placed U (starts U)
+pub fixed_placed : (C : ℕ) (U : List Lot) → AllByRecursion (LawfulLot C) U → Fixed U → Placed U (earliest_starts U)
 fixed_placed C [] ok f = tt
 fixed_placed C (x ∷ xs) ok f = (omega arith, fixed_placed C xs ok.1 f.1)
 
-pub fixed_only : (C : ℕ) (U : List Lot) (ss : List ℕ) → AllByRecursion (LawfulLot C) U → Fixed U → Placed U ss → ss ≡ starts U
+pub fixed_only : (C : ℕ) (U : List Lot) (ss : List ℕ) → AllByRecursion (LawfulLot C) U → Fixed U → Placed U ss → ss ≡ earliest_starts U
 fixed_only C [] [] ok f p = refl
 fixed_only C [] (s ∷ ss) ok f p = absurd p
 fixed_only C (x ∷ xs) [] ok f p = absurd p

@@ -1,19 +1,24 @@
 -- What a search answers.
 use Rattle.std.specs.Prelude.{◌≡◌, ℕ, ◌+◌, ◌*◌, ◌<◌, ◌≤◌, List, [], ◌∷◌, length, take, drop, replicate, Result}
 use Rattle.lots.specs.Checks.{Check, Checked}
+use Rattle.lots.specs.Limits.{max_lots}
 use Rattle.lots.specs.Schedules.{BestSchedule}
 use Rattle.lots.specs.Tables.{blank}
 use Rattle.lots.specs.declared.Lot.{Lot}
 use Rattle.lots.specs.declared.Refusal.{Refusal}
 use Rattle.lots.specs.declared.Refusal.TheVariants.{Budget, Trail, Starts}
 use Rattle.rule.specs.Meanings.{Meaning, Hopeless}
-use Rattle.tree.specs.Tree.{BestKnown, unknown, known, Visit, final}
+use Rattle.tree.specs.Tree.{BestKnown, unknown, known, Visit, last_known}
 use Rattle.tree.specs.declared.Search.{Search}
 use Rattle.tree.specs.declared.Search.TheVariants.{Best, None, Spent}
 
 -- the cells of a trail for n lots
 abbrev pub trail_cells : ℕ → ℕ
 trail_cells n = n * n + n
+
+-- the cells of a trail that serves every table
+abbrev pub max_trail : ℕ
+max_trail = trail_cells max_lots
 
 -- for n lots, a budget of B nodes, a trail of so many cells and so many places for starts
 abbrev pub solve_checks : ℕ → ℕ → ℕ → ℕ → List Check
@@ -31,8 +36,8 @@ nodes (Spent k) = k
 
 -- the answer to a visit bs of n lots under the budget B, where ss is what the place for starts held before and us what it holds after
 abbrev pub Told : ℕ → ℕ → List BestKnown → List ℕ → List ℕ → Search → Type 0
-Told n B bs ss us (Best e k) = (k ≡ length bs) × (k ≤ B) × (final unknown bs ≡ known (take n us) e) × (drop n us ≡ drop n ss)
-Told n B bs ss us (None k) = (k ≡ length bs) × (k ≤ B) × (final unknown bs ≡ unknown) × (us ≡ ss)
+Told n B bs ss us (Best e k) = (k ≡ length bs) × (k ≤ B) × (last_known unknown bs ≡ known (take n us) e) × (drop n us ≡ drop n ss)
+Told n B bs ss us (None k) = (k ≡ length bs) × (k ≤ B) × (last_known unknown bs ≡ unknown) × (us ≡ ss)
 Told n B bs ss us (Spent k) = (k ≡ B) × (B < length bs) × (us ≡ ss)
 
 -- a search of T by the rule m, where cs are the cells of the trail before and ds after

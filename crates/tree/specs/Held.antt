@@ -4,7 +4,7 @@ use Rattle.lots.specs.Schedules.{load}
 use Rattle.lots.specs.Tables.{lot_at}
 use Rattle.lots.specs.declared.Lot.{Lot}
 use Rattle.rule.specs.Meanings.{Meaning, to}
-use Rattle.tree.specs.Tree.{BestKnown, unknown, known, Leaves, starts, HasChoice, Branch, Closes, Visit}
+use Rattle.tree.specs.Tree.{BestKnown, unknown, known, Leaves, earliest_starts, HasChoice, Branch, Closes, Visit}
 use Rattle.tree.specs.Stack.{tables, Stopped}
 use Rattle.tree.specs.declared.node.Known.{Known}
 use Rattle.tree.specs.declared.node.Fate.{Fate}
@@ -19,8 +19,8 @@ best_known (Some k) = known k.starts.items k.end
 
 -- whether the load of the lots, each at its est, is within the capacity C: at every minute, or not at some
 abbrev pub LoadWithin : ℕ → List Lot → Bool → Type 0
-LoadWithin C T true = (t : ℕ) → load t T (starts T) ≤ C
-LoadWithin C T false = (t : ℕ) × (C < load t T (starts T))
+LoadWithin C T true = (t : ℕ) → load t T (earliest_starts T) ≤ C
+LoadWithin C T false = (t : ℕ) × (C < load t T (earliest_starts T))
 
 -- the lot to branch on, where some lot has a choice of starts
 abbrev pub BranchLot : List Lot → Option ℕ → Type 0

@@ -3,7 +3,7 @@ use Rattle.std.specs.Prelude.{◌≡◌, ℕ, zero, suc, ◌+◌, ◌*◌, ◌<�
 use Rattle.lots.specs.Tables.{lst, Lawful}
 use Rattle.lots.specs.declared.Lot.{Lot}
 use Rattle.rule.specs.Meanings.{Meaning, to}
-use Rattle.tree.specs.Tree.{BestKnown, unknown, Leaves, Closes, Branch, left, right, final}
+use Rattle.tree.specs.Tree.{BestKnown, unknown, Leaves, Closes, Branch, left, right, last_known}
 
 -- the d tables of n lots each, the last first
 abbrev pub tables : ℕ → ℕ → List Lot → List (List Lot)
@@ -28,4 +28,4 @@ pub data Advances (m : Meaning) (C : ℕ) : BestKnown → List (List Lot) → Be
 -- a search of which bs is the whole visit has stopped after k nodes with the best b: at the budget B with a node unvisited, or at the end
 abbrev pub Stopped : ℕ → List BestKnown → BestKnown → ℕ → Bool → Type 0
 Stopped B bs b k true = (k ≡ B) × (B < length bs)
-Stopped B bs b k false = (k ≡ length bs) × (k ≤ B) × (final unknown bs ≡ b)
+Stopped B bs b k false = (k ≡ length bs) × (k ≤ B) × (last_known unknown bs ≡ b)

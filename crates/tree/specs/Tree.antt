@@ -23,13 +23,13 @@ EndsBy unknown k = ⊥
 EndsBy (known ss e) k = e ≤ k
 
 -- the lot x, out by d
-abbrev pub out_by : ℕ → Lot → Lot
-out_by d x = record { est = x.est; lct = min x.lct d; p = x.p; c = x.c }
+abbrev pub lot_out_by : ℕ → Lot → Lot
+lot_out_by d x = record x { lct = min x.lct d }
 
 -- the lots of a node, each out before the end of the best known
 abbrev pub under : BestKnown → List Lot → List Lot
 under unknown T = T
-under (known ss e) T = map (out_by (e - 1)) T
+under (known ss e) T = map (lot_out_by (e - 1)) T
 
 -- what a rule makes of T where it is applied until it is still or dead
 abbrev pub ComesTo : Meaning → ℕ → List Lot → Outcome → Type 0
@@ -45,8 +45,8 @@ pub data Leaves (m : Meaning) (C : ℕ) (b : BestKnown) (T : List Lot) : Outcome
 abbrev pub Fixed : List Lot → Type 0
 Fixed U = AllByRecursion (λ x. x.est ≡ lst x) U
 
-abbrev pub starts : List Lot → List ℕ
-starts U = map (λ x. x.est) U
+abbrev pub earliest_starts : List Lot → List ℕ
+earliest_starts U = map (λ x. x.est) U
 
 -- the lot x has a choice of starts
 abbrev pub HasChoice : Lot → Type 0
@@ -61,10 +61,10 @@ pub record Branch (U : List Lot) (j : ℕ) : Type 0 where
 
 -- the lot x starts at its est, or a minute later at the earliest
 abbrev pub at_once : Lot → Lot
-at_once x = record { est = x.est; lct = ect x; p = x.p; c = x.c }
+at_once x = record x { lct = ect x }
 
 abbrev pub a_minute_later : Lot → Lot
-a_minute_later x = record { est = x.est + 1; lct = x.lct; p = x.p; c = x.c }
+a_minute_later x = record x { est = x.est + 1 }
 
 -- the two nodes below U, branched on the lot j
 abbrev pub left : ℕ → List Lot → List Lot
@@ -76,18 +76,18 @@ right j U = slice_set U j (a_minute_later (lot_at U j))
 -- the node T is closed, and the best known goes from b to another, perhaps the same
 pub data Closes (m : Meaning) (C : ℕ) (b : BestKnown) (T : List Lot) : BestKnown → Type 0 where
   barren : Leaves m C b T dead → Closes m C b T b
-  overfull : {U : List Lot} (t : ℕ) → Leaves m C b T (to U) → Fixed U → C < load t U (starts U) → Closes m C b T b
-  found : {U : List Lot} → Leaves m C b T (to U) → Fixed U → ((t : ℕ) → load t U (starts U) ≤ C) → Closes m C b T (known (starts U) (end U (starts U)))
+  above_capacity : {U : List Lot} (t : ℕ) → Leaves m C b T (to U) → Fixed U → C < load t U (earliest_starts U) → Closes m C b T b
+  found : {U : List Lot} → Leaves m C b T (to U) → Fixed U → ((t : ℕ) → load t U (earliest_starts U) ≤ C) → Closes m C b T (known (earliest_starts U) (end U (earliest_starts U)))
 
 -- the last of a list of bests, where b came before it
-abbrev pub final : BestKnown → List BestKnown → BestKnown
-final b [] = b
-final b (x ∷ xs) = final x xs
+abbrev pub last_known : BestKnown → List BestKnown → BestKnown
+last_known b [] = b
+last_known b (x ∷ xs) = last_known x xs
 
 -- a visit of the node T and of all below it, where b is the best known: the best known after each node, in the order of the visit
 pub data Visit (m : Meaning) (C : ℕ) : BestKnown → List Lot → List BestKnown → Type 0 where
   leaf : {b a : BestKnown} {T : List Lot} → Closes m C b T a → Visit m C b T (a ∷ [])
-  fork : {b : BestKnown} {T U : List Lot} {ls rs : List BestKnown} (j : ℕ) → Leaves m C b T (to U) → Branch U j → Visit m C b (left j U) ls → Visit m C (final b ls) (right j U) rs → Visit m C b T (b ∷ (ls ++ rs))
+  fork : {b : BestKnown} {T U : List Lot} {ls rs : List BestKnown} (j : ℕ) → Leaves m C b T (to U) → Branch U j → Visit m C b (left j U) ls → Visit m C (last_known b ls) (right j U) rs → Visit m C b T (b ∷ (ls ++ rs))
 
 -- the ends of a list of bests never rise, where b came before it
 abbrev pub Falling : BestKnown → List BestKnown → Type 0
@@ -108,7 +108,7 @@ pub record TreeLaw (m : Meaning) (C : ℕ) (b : BestKnown) (T : List Lot) : Type
   pub some : (bs : List BestKnown) × Visit m C b T bs
   pub one : (bs cs : List BestKnown) → Visit m C b T bs → Visit m C b T cs → bs ≡ cs
   pub short : (bs : List BestKnown) → Visit m C b T bs → (1 ≤ length bs) × (length bs ≤ 2 * ways T - 1)
-  pub optimal : (bs : List BestKnown) → Visit m C b T bs → Optimal C T b (final b bs)
+  pub optimal : (bs : List BestKnown) → Visit m C b T bs → Optimal C T b (last_known b bs)
   pub falling : (bs : List BestKnown) → Visit m C b T bs → Falling b bs
 
 -- the law holds of every rule that is sound, at every lawful table

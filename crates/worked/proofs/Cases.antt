@@ -11,7 +11,7 @@ use Rattle.rule.specs.Meanings.{Meaning}
 use Rattle.rule.specs.Settled.{slack}
 use Rattle.rules.specs.TimeTable.{some_below, after_last}
 use Rattle.tree.specs.Answer.{Told}
-use Rattle.tree.specs.Tree.{ways, BestKnown, unknown, known, final, Visit}
+use Rattle.tree.specs.Tree.{ways, BestKnown, unknown, known, last_known, Visit}
 use Rattle.tree.specs.declared.Search.{Search}
 use Rattle.tree.specs.declared.Search.TheVariants.{Best, None, Spent}
 use Rattle.worked.specs.Cases.{Case, overflow_is, applied, tightened, ways_are, solved, Holds, worked, AllHold}
@@ -34,16 +34,16 @@ is_unknown (known vs d) = Nothing
 abbrev Writes : ℕ → ℕ → List BestKnown → List ℕ → Search → Type 0
 Writes n B bs us a = (ss : List ℕ) → Told n B bs ss (us ++ drop (length us) ss) a
 
-best_written : (B : ℕ) (bs : List BestKnown) (us : List ℕ) (e k : ℕ) → k ≡ length bs → k ≤ B → final unknown bs ≡ known us e → Writes (length us) B bs us (Best e k)
+best_written : (B : ℕ) (bs : List BestKnown) (us : List ℕ) (e k : ℕ) → k ≡ length bs → k ≤ B → last_known unknown bs ≡ known us e → Writes (length us) B bs us (Best e k)
 best_written B bs us e k all few best ss =
     (all, few, best ∙ ap (λ vs. known vs e) (sym (take-append_seam us (drop (length us) ss))), drop-append_seam us (drop (length us) ss))
 
 abbrev writes : (n B : ℕ) (bs : List BestKnown) (us : List ℕ) (a : Search) → Option (Writes n B bs us a)
 writes n B bs us (Best e k) =
-    then (equal k (length bs)) (λ all. then (at_most k B) (λ few. then (is_known (final unknown bs) us e) (λ best. then (equal (length us) n) (λ count.
+    then (equal k (length bs)) (λ all. then (at_most k B) (λ few. then (is_known (last_known unknown bs) us e) (λ best. then (equal (length us) n) (λ count.
     Some (subst (λ i. Writes i B bs us (Best e k)) count (best_written B bs us e k all few best))))))
 writes n B bs [] (None k) =
-    then (equal k (length bs)) (λ all. then (at_most k B) (λ few. then (is_unknown (final unknown bs)) (λ hopeless.
+    then (equal k (length bs)) (λ all. then (at_most k B) (λ few. then (is_unknown (last_known unknown bs)) (λ hopeless.
     Some (λ ss. (all, few, hopeless, refl)))))
 writes n B bs (u ∷ us) (None k) = Nothing
 writes n B bs [] (Spent k) = then (equal k B) (λ all. then (less B (length bs)) (λ more. Some (λ ss. (all, more, refl))))

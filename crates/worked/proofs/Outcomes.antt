@@ -48,9 +48,9 @@ lawful C T =
 
 module _ (m : Meaning) (C : ℕ) where
   abbrev pub answers : (T U : List Lot) (v : Verdict) → Lawful C T → (o : Outcome) → m C T ≡ o → Option (Applied m C T U (Ok v))
-  answers T U Still ok (to V) e = then (same V T) (λ still. then (same U T) (λ left. Some (ok, e ∙ ap to still, left)))
-  answers T U Moved ok (to V) e = then (same V U) (λ comes. then (other U T) (λ moved. Some (ok, e ∙ ap to comes, moved)))
-  answers T U Dead ok dead e = then (same U T) (λ left. Some (ok, e, left))
+  answers T U Still ok (to V) e = then (same V T) (λ still. then (same U T) (λ left. Some (ok, (e ∙ ap to still, left))))
+  answers T U Moved ok (to V) e = then (same V U) (λ comes. then (other U T) (λ moved. Some (ok, (e ∙ ap to comes, moved))))
+  answers T U Dead ok dead e = then (same U T) (λ left. Some (ok, (e, left)))
   answers T U Still ok dead e = None
   answers T U Moved ok dead e = None
   answers T U Dead ok (to V) e = None

@@ -1,5 +1,5 @@
 -- The visit of a table, found by computing it.
-use Rattle.std.proofs.Common.{◌≡◌, ℕ, zero, suc, ◌+◌, ◌<◌, ◌≤◌, Bool, true, ◌&&◌, List, [], ◌∷◌, ◌++◌, length, Some, None, Option, Decides, refl, ap, ◌∙◌, ◌⊎◌, inl, inr}
+use Rattle.std.proofs.Common.{◌≡◌, ℕ, zero, suc, ◌+◌, ◌≤◌, Bool, true, ◌&&◌, List, [], ◌∷◌, ◌++◌, length, Some, None, Option, Decides, refl, ap, ◌∙◌, ◌⊎◌, inl, inr}
 use Rattle.std.specs.Prelude.{nat_le, nat_lt}
 use Rattle.std.proofs.ByRecursion.{Decides-by_and}
 use Rattle.std.proofs.lemmas.Bool.{leb-true, le-leb}
@@ -9,7 +9,7 @@ use Rattle.lots.specs.Tables.{ect, lst, lot_at, Fits}
 use Rattle.lots.specs.declared.Lot.{Lot}
 use Rattle.rule.specs.Meanings.{Meaning, Outcome, dead, to}
 use Rattle.rule.specs.Settled.{Moves, none, more, slack}
-use Rattle.tree.specs.Tree.{BestKnown, known, under, ComesTo, Leaves, late, tight, Fixed, starts, HasChoice, Branch, left, right, barren, overfull, found, final, Visit, leaf, fork}
+use Rattle.tree.specs.Tree.{BestKnown, known, under, ComesTo, Leaves, late, tight, Fixed, earliest_starts, HasChoice, Branch, left, right, barren, above_capacity, found, last_known, Visit, leaf, fork}
 use Rattle.tree.proofs.Ways.{to_the_end}
 use Rattle.worked.proofs.Found.{then, either_by, at_most, less, equal, of_each, of_each_below, of_some_below}
 use Rattle.worked.proofs.Outcomes.{same?}
@@ -52,15 +52,15 @@ module _ (m : Meaning) (C : ℕ) where
 
   -- a node whose lots have one start left each
   abbrev pub closing : (b : BestKnown) (T U : List Lot) → Leaves m C b T (to U) → Fixed U → Option (VisitOf b T)
-  closing b T U l f = elim (of_each_below (λ t. at_most (load t U (starts U)) C) (end U (starts U))) [
-    | Some within ↦ Some (known (starts U) (end U (starts U)) ∷ [], leaf (found l f (to_the_end C U (starts U) within)))
-    | None ↦ then (of_some_below (λ t. less C (load t U (starts U))) (end U (starts U))) (λ r. Some (b ∷ [], leaf (overfull r.0 l f r.1)))
+  closing b T U l f = elim (of_each_below (λ t. at_most (load t U (earliest_starts U)) C) (end U (earliest_starts U))) [
+    | Some within ↦ Some (known (earliest_starts U) (end U (earliest_starts U)) ∷ [], leaf (found l f (to_the_end C U (earliest_starts U) within)))
+    | None ↦ then (of_some_below (λ t. less C (load t U (earliest_starts U))) (end U (earliest_starts U))) (λ r. Some (b ∷ [], leaf (above_capacity r.0 l f r.1)))
   ]
 
   -- the nodes below are visited by w
   module _ (w : (b : BestKnown) (T : List Lot) → Option (VisitOf b T)) (b : BestKnown) (T : List Lot) where
     abbrev pub forking : (U : List Lot) → Leaves m C b T (to U) → (j : ℕ) → Branch U j → Option (VisitOf b T)
-    forking U l j br = then (w b (left j U)) (λ ls. then (w (final b ls.0) (right j U)) (λ rs. Some (b ∷ (ls.0 ++ rs.0), fork j l br ls.1 rs.1)))
+    forking U l j br = then (w b (left j U)) (λ ls. then (w (last_known b ls.0) (right j U)) (λ rs. Some (b ∷ (ls.0 ++ rs.0), fork j l br ls.1 rs.1)))
 
     abbrev pub node : (o : Outcome) → Leaves m C b T o → Option (VisitOf b T)
     node dead l = Some (b ∷ [], leaf (barren l))

@@ -3,7 +3,7 @@ use Rattle.std.specs.Prelude.{◌≡◌, ℕ, ◌≤◌, List, [], ◌∷◌, �
 use Rattle.std.specs.List.{AllByRecursion}
 use Rattle.lots.specs.Tables.{blank}
 use Rattle.lots.specs.declared.Lot.{Lot}
-use Rattle.elastic.specs.Overflow.{Answered}
+use Rattle.elastic.specs.Overflow.{OverflowAnswered}
 use Rattle.rule.specs.Idle.{idle}
 use Rattle.rule.specs.Meanings.{Meaning, Applied}
 use Rattle.rule.specs.Turned.{turned}
@@ -37,7 +37,7 @@ pub data Case : Type 0 where
 
 -- a case holds: what comes out is what the contract of the call asks for
 abbrev pub Holds : Case → Type 0
-Holds (overflow_is C T left count) = Answered C T (Ok (left, count))
+Holds (overflow_is C T left count) = OverflowAnswered C T (Ok (left, count))
 Holds (applied m C T v U) = Applied m C T U (Ok v)
 Holds (tightened m C T v k U) = Tightened m (record { capacity = C; lots = T }) (record { capacity = C; lots = U }) v k
 Holds (ways_are T n) = ways T ≡ n

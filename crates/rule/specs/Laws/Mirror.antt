@@ -96,11 +96,11 @@ turned_sound m p = record {
 pub turned_applied : (m : Meaning) → Sound m → (C : ℕ) (T U : List Lot) (r : Result Verdict Refusal) → Lawful C T → Applied m C (map turn T) U r → Applied (turned m) C T (map turn U) r
 turned_applied m p C T U (Ok Still) ok a =
     let back = turn_turn T (lawful_week C T ok) in
-    (ok, ap turn_outcome a.1 ∙ ap to back, ap (map turn) a.2 ∙ back)
+    (ok, (ap turn_outcome a.1.0 ∙ ap to back, ap (map turn) a.1.1 ∙ back))
 turned_applied m p C T U (Ok Moved) ok a =
-    let there = gives_at (m C (map turn T)) _ U a.1 (p.lawful C (map turn T) a.0) in
-    (ok, ap turn_outcome a.1, λ e. a.2 (sym (turn_turn U (lawful_week C U there.0)) ∙ ap (map turn) e))
-turned_applied m p C T U (Ok Dead) ok a = (ok, ap turn_outcome a.1, ap (map turn) a.2 ∙ turn_turn T (lawful_week C T ok))
+    let there = gives_at (m C (map turn T)) _ U a.1.0 (p.lawful C (map turn T) a.0) in
+    (ok, (ap turn_outcome a.1.0, λ e. a.1.1 (sym (turn_turn U (lawful_week C U there.0)) ∙ ap (map turn) e)))
+turned_applied m p C T U (Ok Dead) ok a = (ok, (ap turn_outcome a.1.0, ap (map turn) a.1.1 ∙ turn_turn T (lawful_week C T ok)))
 turned_applied m p C T U (Err e) ok a = absurd (a.0 (turn_lawful C T ok))
 
 turn_outcome_twice : (C : ℕ) (T : List Lot) (o : Outcome) → Gives o (LawfulSameWork C T) → turn_outcome (turn_outcome o) ≡ o

@@ -21,15 +21,15 @@ gives_at o P U e h = subst (λ v. Gives v P) e h
 
 -- an application that is not dead: the table after it is the rule's
 pub applied_to : (m : Meaning) (C : ℕ) (T U : List Lot) (v : Verdict) → (v ≢ Dead) → Applied m C T U (Ok v) → Lawful C T × (m C T ≡ to U)
-applied_to m C T U Still alive a = (a.0, a.1 ∙ ap to (sym a.2))
-applied_to m C T U Moved alive a = (a.0, a.1)
+applied_to m C T U Still alive a = (a.0, a.1.0 ∙ ap to (sym a.1.1))
+applied_to m C T U Moved alive a = (a.0, a.1.0)
 applied_to m C T U Dead alive a = absurd (alive refl)
 
 -- a lawful table is lawful after an application, whatever the answer
 pub applied_lawful : (m : Meaning) → Sound m → (C : ℕ) (T U : List Lot) (r : Result Verdict Refusal) → Lawful C T → Applied m C T U r → Lawful C U
-applied_lawful m p C T U (Ok Still) ok a = subst (Lawful C) (sym a.2) ok
-applied_lawful m p C T U (Ok Moved) ok a = (gives_at (m C T) _ U a.1 (p.lawful C T ok)).0
-applied_lawful m p C T U (Ok Dead) ok a = subst (Lawful C) (sym a.2) ok
+applied_lawful m p C T U (Ok Still) ok a = subst (Lawful C) (sym a.1.1) ok
+applied_lawful m p C T U (Ok Moved) ok a = (gives_at (m C T) _ U a.1.0 (p.lawful C T ok)).0
+applied_lawful m p C T U (Ok Dead) ok a = subst (Lawful C) (sym a.1.1) ok
 applied_lawful m p C T U (Err e) ok a = absurd (a.0 ok)
 
 -- what holds of both ways holds of the choice

@@ -2,7 +2,7 @@
 use Rattle.std.specs.Prelude.{ℕ, List, Ok, ◌≢◌}
 use Rattle.std.proofs.Common.{sym, ap, subst, ◌∙◌}
 use Rattle.lots.specs.declared.Lot.{Lot}
-use Rattle.rule.specs.Both.{then, both}
+use Rattle.rule.specs.Both.{and_then, both}
 use Rattle.rule.specs.Meanings.{Narrower, Meaning, Outcome, dead, to, Gives, Dies, LawfulSameWork, Keeps, Hopeless, Sound, Applied}
 use Rattle.rule.specs.declared.Verdict.{Verdict}
 use Rattle.rule.specs.declared.Verdict.TheVariants.{Moved, Dead}
@@ -10,19 +10,19 @@ use Rattle.rule.specs.Laws.Outcomes.{gives_weaker, dies_weaker, gives_at, applie
 use Rattle.rule.specs.Laws.Tables.{same_work_trans, narrower_trans, narrower_antisym}
 
 module _ (n : Meaning) (q : Sound n) (C : ℕ) (T : List Lot) where
-  then_lawful : (o : Outcome) → Gives o (LawfulSameWork C T) → Gives (then o (n C)) (LawfulSameWork C T)
+  then_lawful : (o : Outcome) → Gives o (LawfulSameWork C T) → Gives (and_then o (n C)) (LawfulSameWork C T)
   then_lawful dead h = tt
   then_lawful (to U) h = gives_weaker (n C U) _ _ (λ V r. (r.0, same_work_trans T U V h.1 r.1)) (q.lawful C U h.0)
 
-  then_narrows : (o : Outcome) → Gives o (LawfulSameWork C T) → Gives o (Narrower T) → Gives (then o (n C)) (Narrower T)
+  then_narrows : (o : Outcome) → Gives o (LawfulSameWork C T) → Gives o (Narrower T) → Gives (and_then o (n C)) (Narrower T)
   then_narrows dead l h = tt
   then_narrows (to U) l h = gives_weaker (n C U) _ _ (λ V r. narrower_trans T U V h r) (q.narrows C U l.0)
 
-  then_keeps : (o : Outcome) → Gives o (LawfulSameWork C T) → Gives o (Keeps C T) → Gives (then o (n C)) (Keeps C T)
+  then_keeps : (o : Outcome) → Gives o (LawfulSameWork C T) → Gives o (Keeps C T) → Gives (and_then o (n C)) (Keeps C T)
   then_keeps dead l h = tt
   then_keeps (to U) l h = gives_weaker (n C U) _ _ (λ V r ss s. r ss (h ss s)) (q.keeps C U l.0)
 
-  then_dies : (o : Outcome) → Gives o (LawfulSameWork C T) → Gives o (Keeps C T) → Dies o (Hopeless C T) → Dies (then o (n C)) (Hopeless C T)
+  then_dies : (o : Outcome) → Gives o (LawfulSameWork C T) → Gives o (Keeps C T) → Dies o (Hopeless C T) → Dies (and_then o (n C)) (Hopeless C T)
   then_dies dead l k h = h
   then_dies (to U) l k h = dies_weaker (n C U) _ _ (λ r ss s. r ss (k ss s)) (q.dies_rightly C U l.0)
 
@@ -40,8 +40,5 @@ both_moves m n p q C T U V v alive a b =
     let x = applied_to m C T U v alive a in
     let law = gives_at (m C T) (LawfulSameWork C T) U x.1 (p.lawful C T x.0) in
     let there = gives_at (m C T) (Narrower T) U x.1 (p.narrows C T x.0) in
-    let on = gives_at (n C U) (Narrower U) V b.1 (q.narrows C U law.0) in (
-      x.0,
-      ap (λ o. then o (n C)) x.1 ∙ b.1,
-      λ e. b.2 (e ∙ sym (narrower_antisym T U law.1 there (subst (Narrower U) e on))),
-    )
+    let on = gives_at (n C U) (Narrower U) V b.1.0 (q.narrows C U law.0) in
+    (x.0, (ap (λ o. and_then o (n C)) x.1 ∙ b.1.0, λ e. b.1.1 (e ∙ sym (narrower_antisym T U law.1 there (subst (Narrower U) e on)))))

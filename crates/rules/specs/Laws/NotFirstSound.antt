@@ -10,14 +10,14 @@ use Rattle.lots.specs.Limits.{horizon}
 use Rattle.lots.specs.Schedules.{spans, load, Placed, Schedule}
 use Rattle.lots.specs.Tables.{ect, lot_at, LawfulLot, Lawful}
 use Rattle.lots.specs.declared.Lot.{Lot}
-use Rattle.elastic.specs.Parts.{run}
+use Rattle.elastic.specs.Marked.{stand_in_lot}
 use Rattle.elastic.specs.Profile.{earliest, overflow}
 use Rattle.elastic.proofs.Soundness.{overflow_of_schedulable}
 use Rattle.rule.specs.Meanings.{Sound}
 use Rattle.rule.proofs.Raises.{raise_lawful, raise_narrows, raise_keeps, raise_dies}
 use Rattle.rules.specs.Chosen.{chosen, overfull}
 use Rattle.rules.specs.NotFirst.{in_cut, cut, least_ect, with_stand_in, bound_by, greatest_bound, not_first}
-use Rattle.rules.specs.Laws.ChosenLots.{starts, load_cond, chosen_placed, chosen_load, chosen_schedule, chosen_each}
+use Rattle.rules.specs.Laws.ChosenLots.{chosen_starts, load_cond, chosen_placed, chosen_load, chosen_schedule, chosen_each}
 
 -- two lists of lots, each with its starts
 placed_append : (xs ys : List Lot) (ss us : List ℕ) → Placed xs ss → Placed ys us → Placed (xs ++ ys) (ss ++ us)
@@ -44,17 +44,17 @@ load_later t u (x ∷ xs) (s ∷ ss) h a p =
 
 -- a lot that was not chosen runs beside those that were
 module _ (test : ℕ → Lot → Bool) (t : ℕ) where
-  load_beside : (k i : ℕ) (T : List Lot) (ss : List ℕ) → Placed T ss → i < length T → test (k + i) (lot_at T i) ≡ false → spans (slice_index ss i) (slice_index ss i + (lot_at T i).p) t ≡ true → load t (chosen test k T) (starts test k T ss) + (lot_at T i).c ≤ load t T ss
+  load_beside : (k i : ℕ) (T : List Lot) (ss : List ℕ) → Placed T ss → i < length T → test (k + i) (lot_at T i) ≡ false → spans (slice_index ss i) (slice_index ss i + (lot_at T i).p) t ≡ true → load t (chosen test k T) (chosen_starts test k T ss) + (lot_at T i).c ≤ load t T ss
   load_beside k i [] ss p h out here = absurd (omega arith)
   load_beside k i (x ∷ xs) [] p h out here = absurd p
   load_beside k zero (x ∷ xs) (s ∷ ss) p h out here =
       let none = subst (λ n. test n x ≡ false) (add-zero k) out in
-      let left = ap (λ b. load t (if b then x ∷ chosen test (suc k) xs else chosen test (suc k) xs) (if b then s ∷ starts test (suc k) xs ss else starts test (suc k) xs ss)) none in
+      let left = ap (λ b. load t (if b then x ∷ chosen test (suc k) xs else chosen test (suc k) xs) (if b then s ∷ chosen_starts test (suc k) xs ss else chosen_starts test (suc k) xs ss)) none in
       let runs = ap (λ b. if b then x.c else 0) here in
       omega (arith, left, runs, chosen_load test t (suc k) xs ss p.1)
   load_beside k (suc i) (x ∷ xs) (s ∷ ss) p h out here =
       let rest = load_beside (suc k) i xs ss p.1 (omega arith) (subst (λ n. test n (lot_at xs i) ≡ false) (omega arith) out) here in
-      omega (arith, load_cond test t (test k x) x s (chosen test (suc k) xs) (starts test (suc k) xs ss), rest)
+      omega (arith, load_cond test t (test k x) x s (chosen test (suc k) xs) (chosen_starts test (suc k) xs ss), rest)
 
 placed_start : (T : List Lot) (ss : List ℕ) (i : ℕ) → i < length T → Placed T ss → ((lot_at T i).est ≤ slice_index ss i) × (slice_index ss i + (lot_at T i).p ≤ (lot_at T i).lct)
 placed_start [] ss i h p = absurd (omega arith)
@@ -85,7 +85,7 @@ module _ (C : ℕ) (T : List Lot) (ok : Lawful C T) (ss : List ℕ) (s : Schedul
   Ω = cut T i t
 
   abbrev us : List ℕ
-  us = starts test 0 T ss
+  us = chosen_starts test 0 T ss
 
   abbrev m : ℕ
   m = min (ect (lot_at T i)) t
@@ -108,7 +108,7 @@ module _ (C : ℕ) (T : List Lot) (ok : Lawful C T) (ss : List ℕ) (s : Schedul
   ]
 
   abbrev guest : Lot
-  guest = run (lot_at T i).c m Ω
+  guest = stand_in_lot (lot_at T i).c m Ω
 
   load_with : (v : ℕ) (b : Bool) → spans (earliest Ω) (earliest Ω + (m - earliest Ω)) v ≡ b → earliest Ω < m → load v Ω us + ((if b then (lot_at T i).c else 0) + 0) ≤ C
   load_with v true e k = omega (arith, beside v (omega (arith, span_below (earliest Ω) (earliest Ω + (m - earliest Ω)) v e)))

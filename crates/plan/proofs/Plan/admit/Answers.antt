@@ -2,7 +2,7 @@ use Rattle.std.proofs.Common.{Ok, arith}
 use Rattle.std.proofs.lemmas.Grind.{common_steps}
 use Rattle.plan.proofs.Histories.{admit_follows}
 use Rattle.plan.proofs.Tables.{admitted_lawful}
-use Rattle.plan.specs.Tables.{Table}
+use Rattle.lots.specs.Tables.{Table}
 use Rattle.plan.proofs.Plan.admit.Goals as goal
 
 pub returns-in_err-admission-clause-follows : goal.returns-in_err-admission-clause-follows

@@ -2,7 +2,7 @@ use Rattle.std.proofs.Common.{Ok, arith}
 use Rattle.std.proofs.lemmas.Grind.{common_steps}
 use Rattle.plan.proofs.Histories.{narrow_follows}
 use Rattle.plan.proofs.Tables.{narrowed_lawful}
-use Rattle.plan.specs.Tables.{Table}
+use Rattle.lots.specs.Tables.{Table}
 use Rattle.plan.proofs.Plan.narrow.Goals as goal
 
 pub returns-in_err-place-clause-follows : goal.returns-in_err-place-clause-follows

@@ -24,15 +24,15 @@ loop-moves-init g c =
 pub loop-moves-smaller : goal.loop-moves-smaller
 loop-moves-smaller g c =
     let a = rw c.in-Moved.is at c.in_ok-apply.ensures.answer in
-    (moved_falls _ (g.met.R.Rule.sound c.args.rule.now) _ _ _ a.0 a.1 a.2).1
+    (moved_falls _ (g.met.R.Rule.sound c.args.rule.now) _ _ _ a.0 a.1.0 a.1.1).1
 
 pub loop-moves-preserved : goal.loop-moves-preserved
 loop-moves-preserved g c =
     let a = rw c.in-Moved.is at c.in_ok-apply.ensures.answer in
-    let f = moved_falls _ (g.met.R.Rule.sound c.args.rule.now) _ _ _ a.0 a.1 a.2 in record {
+    let f = moved_falls _ (g.met.R.Rule.sound c.args.rule.now) _ _ _ a.0 a.1.0 a.1.1 in record {
       lawful_before = c.loop-moves.invariant.lawful_before;
       lawful = f.0;
-      moved = moves_more c.loop-moves.invariant.moved a.1 a.2;
+      moved = moves_more c.loop-moves.invariant.moved a.1.0 a.1.1;
       room = omega (arith, f.1);
       most = c.loop-moves.invariant.most;
     }
@@ -43,8 +43,8 @@ returns-in-Still g c = record {
       let a = rw c.in-Still.is at c.in_ok-apply.ensures.answer in
       let h = c.loop-moves.invariant in
       elim c.if-moves-eq0.branch [
-        | then-moves-eq0 w ↦ (h.lawful_before, rw w.verdict-is (settled_still h.moved a.1 a.2 w.if-moves-eq0.true), omega arith)
-        | else-moves-eq0 w ↦ (h.lawful_before, rw w.verdict-is (settled_moved h.moved a.1 a.2 (omega arith)), omega arith)
+        | then-moves-eq0 w ↦ (h.lawful_before, rw w.verdict-is (settled_still h.moved a.1.0 a.1.1 w.if-moves-eq0.true), omega arith)
+        | else-moves-eq0 w ↦ (h.lawful_before, rw w.verdict-is (settled_moved h.moved a.1.0 a.1.1 (omega arith)), omega arith)
       ];
 }
 
@@ -53,5 +53,5 @@ returns-in-Dead g c = record {
   answer =
       let a = rw c.in-Dead.is at c.in_ok-apply.ensures.answer in
       let h = c.loop-moves.invariant in
-      (h.lawful_before, (_, _, add-one _, h.moved, a.1, grind (arith, common_steps)), omega arith);
+      (h.lawful_before, (_, _, add-one _, h.moved, a.1.0, grind (arith, common_steps)), omega arith);
 }

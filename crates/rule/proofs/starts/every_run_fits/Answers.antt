@@ -1,6 +1,6 @@
 use Rattle.std.proofs.Common.{get_or, sym, ◌∙◌}
 use Rattle.std.proofs.lemmas.List.{at_drop_all}
-use Rattle.rule.specs.Raised.{later_all, all_fit}
+use Rattle.rule.specs.Raised.{later_lots, all_fit}
 use Rattle.rule.proofs.Raises.{fit_more}
 use Rattle.rule.proofs.starts.every_run_fits.Goals as goal
 
@@ -21,6 +21,6 @@ returns-then-not-fits c = record {
 pub returns : goal.returns
 returns c = record {
   answer =
-      sym (at_drop_all (λ xs. all_fit (later_all (λ j. get_or c.args.bounds.now j 0) c.loop-number.number xs)) _ _ c.loop-number-test.false)
+      sym (at_drop_all (λ xs. all_fit (later_lots (λ j. get_or c.args.bounds.now j 0) c.loop-number.number xs)) _ _ c.loop-number-test.false)
       ∙ c.loop-number.invariant;
 }

@@ -1,7 +1,7 @@
 use Rattle.std.proofs.Common.{◌<◌, length, sym, subst, arith}
 use Rattle.lots.proofs.Tables.{lawful_under_most}
 use Rattle.elastic.specs.Points.{Profiles}
-use Rattle.elastic.proofs.Parts.{those_more, some_missing}
+use Rattle.elastic.proofs.Marked.{those_more, some_missing}
 use Rattle.elastic.proofs.profile.Profile.add.Goals as goal
 
 pub add-requires-clause-profile : goal.add-requires-clause-profile

@@ -1,7 +1,7 @@
 use Rattle.std.proofs.Common.{[], sym, subst}
 use Rattle.lots.specs.Limits.{max_lots}
 use Rattle.elastic.specs.Points.{Profiles}
-use Rattle.elastic.proofs.Parts.{those_none, none_marked}
+use Rattle.elastic.proofs.Marked.{those_none, none_marked}
 use Rattle.elastic.proofs.Profiles.{profiles_none}
 use Rattle.elastic.proofs.profile.Profile.new.Goals as goal
 

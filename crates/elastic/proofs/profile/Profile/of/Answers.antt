@@ -1,5 +1,5 @@
 use Rattle.std.proofs.Common.{◌<◌, length, ◌∙◌, arith}
-use Rattle.elastic.proofs.Parts.{those_all, marked_more}
+use Rattle.elastic.proofs.Marked.{those_all, marked_more}
 use Rattle.elastic.proofs.profile.Profile.of.Goals as goal
 
 pub loop-number-preserved : goal.loop-number-preserved

@@ -7,7 +7,7 @@ returns-then-some_overfull c = record {
   answer =
       let told = rw c.as_slice.ensures.row at c.some_overfull.ensures.answer in
       rw (← c.in_ok-table.ensures.answer.0, ← c.in_ok-table.ensures.answer.1)
-      (c.in_ok-table.table.lawful, overload_by_ends _ _ _ c.distinct_ends-ends.ensures.answer _ true told c.if-some_overfull.true, refl);
+      (c.in_ok-table.table.lawful, (overload_by_ends _ _ _ c.distinct_ends-ends.ensures.answer _ true told c.if-some_overfull.true, refl));
 }
 
 pub returns-else-some_overfull : goal.returns-else-some_overfull
@@ -15,5 +15,5 @@ returns-else-some_overfull c = record {
   answer =
       let told = rw c.as_slice.ensures.row at c.some_overfull.ensures.answer in
       rw (← c.in_ok-table.ensures.answer.0, ← c.in_ok-table.ensures.answer.1)
-      (c.in_ok-table.table.lawful, overload_by_ends _ _ _ c.distinct_ends-ends.ensures.answer _ false told c.if-some_overfull.false, refl);
+      (c.in_ok-table.table.lawful, (overload_by_ends _ _ _ c.distinct_ends-ends.ensures.answer _ false told c.if-some_overfull.false, refl));
 }

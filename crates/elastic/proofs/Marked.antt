@@ -8,10 +8,10 @@ use Rattle.lots.specs.Limits.{max_capacity}
 use Rattle.lots.specs.Tables.{lot_at, LawfulLot, Lawful}
 use Rattle.lots.specs.declared.Lot.{Lot}
 use Rattle.lots.proofs.Tables.{lawful_under_most}
-use Rattle.elastic.specs.Parts.{those, run, kept}
+use Rattle.elastic.specs.Marked.{marked_lots, stand_in_lot, stand_in}
 use Rattle.elastic.specs.Profile.{earliest}
 
-pub those_none : (n : ℕ) (T : List Lot) → those (replicate n false) T ≡ []
+pub those_none : (n : ℕ) (T : List Lot) → marked_lots (replicate n false) T ≡ []
 those_none zero T = refl
 those_none (suc n) [] = refl
 those_none (suc n) (x ∷ xs) = those_none n xs
@@ -22,7 +22,7 @@ none_marked n k = elim (cases_lt k n) [
   | inr h ↦ get_or_past (replicate n false) k false (omega (arith, length-replicate n false, h))
 ]
 
-pub those_all : (bs : List Bool) (T : List Lot) → ((k : ℕ) → k < length T → get_or bs k false ≡ true) → those bs T ≡ T
+pub those_all : (bs : List Bool) (T : List Lot) → ((k : ℕ) → k < length T → get_or bs k false ≡ true) → marked_lots bs T ≡ T
 those_all [] [] h = refl
 those_all [] (x ∷ xs) h = absurd (let z : false ≡ true = h 0 (omega arith) in cc)
 those_all (b ∷ bs) [] h = refl
@@ -69,16 +69,16 @@ cond_append false x xs ys = refl
 pub record Among (bs : List Bool) (T : List Lot) (n : ℕ) : Type 0 where
   pub before : List Lot
   pub after : List Lot
-  pub without : those bs T ≡ before ++ after
-  pub with_it : those (set bs n true) T ≡ before ++ (lot_at T n ∷ after)
+  pub without : marked_lots bs T ≡ before ++ after
+  pub with_it : marked_lots (set bs n true) T ≡ before ++ (lot_at T n ∷ after)
 
 pub those_more : (bs : List Bool) (T : List Lot) (n : ℕ) → n < length T → n < length bs → get_or bs n false ≡ false → Among bs T n
 those_more [] T n h k e = absurd (omega arith)
 those_more (b ∷ bs) [] n h k e = absurd (omega arith)
 those_more (b ∷ bs) (x ∷ xs) zero h k e = record {
   before = [];
-  after = those bs xs;
-  without = ap (λ c. if c then x ∷ those bs xs else those bs xs) e;
+  after = marked_lots bs xs;
+  without = ap (λ c. if c then x ∷ marked_lots bs xs else marked_lots bs xs) e;
   with_it = refl;
 }
 those_more (b ∷ bs) (x ∷ xs) (suc n) h k e =
@@ -91,28 +91,28 @@ those_more (b ∷ bs) (x ∷ xs) (suc n) h k e =
     }
 
 -- some of a lawful table are one, under the greatest capacity
-those_few : (bs : List Bool) (T : List Lot) → length (those bs T) ≤ length T
+those_few : (bs : List Bool) (T : List Lot) → length (marked_lots bs T) ≤ length T
 those_few [] T = omega arith
 those_few (b ∷ bs) [] = omega arith
 those_few (b ∷ bs) (x ∷ xs) =
-    cond_both b (x ∷ those bs xs) (those bs xs) (λ ys. length ys ≤ suc (length xs)) (λ e. omega (arith, those_few bs xs)) (λ e. omega (arith, those_few bs xs))
+    cond_both b (x ∷ marked_lots bs xs) (marked_lots bs xs) (λ ys. length ys ≤ suc (length xs)) (λ e. omega (arith, those_few bs xs)) (λ e. omega (arith, those_few bs xs))
 
 -- a lot that is not marked makes them fewer
-pub some_missing : (bs : List Bool) (T : List Lot) (n : ℕ) → n < length T → get_or bs n false ≡ false → length (those bs T) < length T
+pub some_missing : (bs : List Bool) (T : List Lot) (n : ℕ) → n < length T → get_or bs n false ≡ false → length (marked_lots bs T) < length T
 some_missing [] T n h e = omega (arith, h)
 some_missing (b ∷ bs) [] n h e = absurd (omega arith)
-some_missing (b ∷ bs) (x ∷ xs) zero h e = omega (arith, ap (λ c. length (if c then x ∷ those bs xs else those bs xs)) e, those_few bs xs)
+some_missing (b ∷ bs) (x ∷ xs) zero h e = omega (arith, ap (λ c. length (if c then x ∷ marked_lots bs xs else marked_lots bs xs)) e, those_few bs xs)
 some_missing (b ∷ bs) (x ∷ xs) (suc n) h e =
     let rest = some_missing bs xs n (omega arith) e in
-    cond_both b (x ∷ those bs xs) (those bs xs) (λ ys. length ys < suc (length xs)) (λ e. omega (arith, rest)) (λ e. omega (arith, rest))
+    cond_both b (x ∷ marked_lots bs xs) (marked_lots bs xs) (λ ys. length ys < suc (length xs)) (λ e. omega (arith, rest)) (λ e. omega (arith, rest))
 
-those_each : (P : Lot → Type 0) (bs : List Bool) (T : List Lot) → AllByRecursion P T → AllByRecursion P (those bs T)
+those_each : (P : Lot → Type 0) (bs : List Bool) (T : List Lot) → AllByRecursion P T → AllByRecursion P (marked_lots bs T)
 those_each P [] T h = tt
 those_each P (b ∷ bs) [] h = tt
 those_each P (b ∷ bs) (x ∷ xs) h =
-    cond_both b (x ∷ those bs xs) (those bs xs) (AllByRecursion P) (λ e. (h.0, those_each P bs xs h.1)) (λ e. those_each P bs xs h.1)
+    cond_both b (x ∷ marked_lots bs xs) (marked_lots bs xs) (AllByRecursion P) (λ e. (h.0, those_each P bs xs h.1)) (λ e. those_each P bs xs h.1)
 
-pub those_lawful : (bs : List Bool) (C : ℕ) (T : List Lot) → Lawful C T → Lawful max_capacity (those bs T)
+pub those_lawful : (bs : List Bool) (C : ℕ) (T : List Lot) → Lawful C T → Lawful max_capacity (marked_lots bs T)
 those_lawful bs C T given =
     let ok = lawful_under_most C T given in
     record {
@@ -122,9 +122,9 @@ those_lawful bs C T given =
       each = those_each (LawfulLot max_capacity) bs T ok.each;
     }
 
-pub nothing_kept : (Ω : List Lot) → Ω ++ kept 0 0 Ω ≡ Ω
+pub nothing_kept : (Ω : List Lot) → Ω ++ stand_in 0 0 Ω ≡ Ω
 nothing_kept Ω =
-    ap (λ b. Ω ++ (if b then [] else run 0 0 Ω ∷ [])) (le-leb 0 (earliest Ω) (omega arith)) ∙ append-nil Ω
+    ap (λ b. Ω ++ (if b then [] else stand_in_lot 0 0 Ω ∷ [])) (le-leb 0 (earliest Ω) (omega arith)) ∙ append-nil Ω
 
 pub trays_fit : (C : ℕ) (T : List Lot) (n : ℕ) → AllByRecursion (LawfulLot C) T → (lot_at T n).c ≤ C
 trays_fit C [] n h = omega arith
