@@ -1,7 +1,8 @@
 -- What the words of a line ask.
 use Rattle.std.proofs.Common.{◌≡◌, ℕ, if◌then◌else◌, eqb, List, ◌∷◌, length, get_or, Ok, Err, Result, sym, refl, ap, ◌∙◌, subst}
 use Rattle.lots.specs.Tables.{Table}
-use Rattle.console.specs.Lines.{Name, overflow_call, rule_call, open_call, admit_call, narrow_call, tighten_call, solve_call, windows_call, word_of, Asks, Known, Answers, Made, Comes}
+use Rattle.console.specs.Lines.{Name, overflow_call, rule_call, open_call, admit_call, narrow_call, tighten_call, solve_call, windows_call, word_of, Asks, Known, Answers, Made}
+use Rattle.console.specs.Private.Faults.{Comes}
 use Rattle.console.specs.declared.answers.Answer.{Answer}
 use Rattle.console.specs.declared.answers.Fault.{Fault}
 use Rattle.console.specs.declared.answers.Fault.TheVariants as fault

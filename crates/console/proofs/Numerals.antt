@@ -4,7 +4,7 @@ use Rattle.std.specs.Result.{result_ok}
 use Rattle.std.specs.Str.Parse.{ParsesUnsigned}
 use Rattle.std.specs.Str.{all_ascii_digits}
 use Rattle.std.proofs.lemmas.Str.Parse.{IsNumeralModel, numerals_by_fold, tells_all_ascii_digits, parse_plain}
-use Rattle.lots.specs.Texts.{Reads}
+use Rattle.lots.specs.Private.Reading.{Reads}
 use Rattle.console.specs.Syntax.{NumberOf, number_after}
 
 pub decimals : IsNumeralModel (λ ds. all_ascii_digits ds ≡ true) (number_after 0)

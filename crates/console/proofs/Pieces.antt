@@ -12,7 +12,8 @@ use Rattle.std.proofs.lemmas.List.Elements.{All-from_get_or}
 use Rattle.std.proofs.lemmas.List.Splits.{slice_split_none, slice_split_at}
 use Rattle.std.proofs.lemmas.Str.{len_utf8_bounds}
 use Rattle.std.proofs.lemmas.Str.Pattern.{NoCharPasses-char, drop_at_char}
-use Rattle.console.specs.Syntax.{pieces, to_come}
+use Rattle.console.specs.Syntax.{pieces}
+use Rattle.console.specs.Private.Parts.{to_come}
 
 no_mark : (c : ℕ) (bs : List ℕ) → c < 128 → NoCharPasses (λ d. eqb d c) bs → All (λ b. eqb b c ≡ false) bs
 no_mark c bs ascii none = All-from_get_or (λ b. eqb b c ≡ false) bs 0 (λ i within. ne_eqb _ c (NoCharPasses-char c bs i none ascii within))

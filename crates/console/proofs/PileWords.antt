@@ -3,8 +3,9 @@ use Rattle.std.proofs.Common.{◌≡◌, ℕ, ◌+◌, ◌-◌, ◌*◌, ◌≤�
 use Rattle.std.proofs.lemmas.List.{append-nil, append_assoc, append_cancel_left}
 use Rattle.std.specs.Option.{ok_or}
 use Rattle.std.specs.Result.{IsErrAnd}
-use Rattle.console.specs.Lines.{Unread}
-use Rattle.console.specs.Piles.{pile_word, levels, max_levels, Names, Lacks, BeginsWithPile}
+use Rattle.console.specs.Private.Faults.{Unread}
+use Rattle.console.specs.Piles.{pile_word, levels, max_levels, Names}
+use Rattle.console.specs.Private.Front.{Lacks, BeginsWithPile}
 use Rattle.console.specs.declared.answers.Fault.{Fault}
 use Rattle.console.specs.declared.answers.Fault.TheVariants as fault
 use Rattle.console.specs.declared.piles.Pile.{Pile, Idle, Overload, TimeTable, NotFirst, House, Turned', Both'}

@@ -3,3 +3,4 @@ pub mod Shown
 pub mod Syntax
 pub mod Piles
 pub mod Laws
+pub mod Private

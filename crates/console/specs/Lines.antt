@@ -16,7 +16,6 @@ use Rattle.console.specs.Piles.{pile_meaning, Names}
 use Rattle.console.specs.declared.piles.Pile.{Pile}
 use Rattle.console.specs.declared.answers.Answer.{Answer}
 use Rattle.console.specs.declared.answers.Answer.TheVariants as answer
-use Rattle.console.specs.declared.answers.Fault.{Fault}
 use Rattle.console.specs.declared.answers.Fault.TheVariants as fault
 use Rattle.console.specs.Syntax.{Number, Budget, Cell, lot_numbers, pieces}
 
@@ -41,12 +40,6 @@ word_of narrow_call = codes "narrow"
 word_of tighten_call = codes "tighten"
 word_of solve_call = codes "solve"
 word_of windows_call = codes "windows"
-
--- why nothing was read: P holds where it is for the words, and nothing is said where it is for want of memory
-abbrev pub Unread : Fault → Type 0 → Type 0
-Unread fault.Unknown P = P
-Unread (fault.Refused refusal) P = ⊥
-Unread fault.Memory P = Unit {0}
 
 -- the words write the table of the capacity C and the lots T: `C CELL..`
 abbrev pub TableForm : List (List ℕ) → ℕ → List Lot → Type 0
@@ -113,13 +106,6 @@ Answers windows_call words P Q a = (words ≡ []) × (lots : Vec Lot) × (vec_it
 -- what is answered to the words of a line that write a call
 abbrev pub Made : List (List ℕ) → Table → Table → Answer → Type 0
 Made words P Q a = (n : Name) × (slice_index_or words 0 [] ≡ word_of n) × Answers n (drop 1 words) P Q a
-
--- what came of some words: an answer that is right for them; or they write nothing known, or there was no memory, and the plan is as before
-abbrev pub Comes : (Right : Table → Table → Answer → Type 0) → (Unknown : Type 0) → Table → Table → Result Answer Fault → Type 0
-Comes Right Unknown P Q (Ok a) = Right P Q a
-Comes Right Unknown P Q (Err (fault.Refused refusal)) = Right P Q (answer.Refused refusal)
-Comes Right Unknown P Q (Err fault.Unknown) = Unknown × (Q ≡ P)
-Comes Right Unknown P Q (Err fault.Memory) = Q ≡ P
 
 -- the byte `#`
 abbrev pub hash : ℕ

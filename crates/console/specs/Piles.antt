@@ -1,5 +1,5 @@
 -- The piles that a word can name.
-use Rattle.std.specs.Prelude.{◌≡◌, ◌≢◌, ℕ, ◌+◌, ◌≤◌, max, List, ◌++◌, codes}
+use Rattle.std.specs.Prelude.{◌≡◌, ℕ, ◌+◌, ◌≤◌, max, List, ◌++◌, codes}
 use Rattle.rule.specs.Both.{both}
 use Rattle.rule.specs.Idle.{idle}
 use Rattle.rule.specs.Meanings.{Meaning}
@@ -42,11 +42,3 @@ max_levels = 500
 -- the word names the pile: it is the pile's word, and not too deep to be read
 abbrev pub Names : List ℕ → Pile → Type 0
 Names w p = (w ≡ pile_word p) × (levels p ≤ max_levels)
-
--- the text does not begin with the word
-abbrev pub Lacks : List ℕ → List ℕ → Type 0
-Lacks text w = (x : List ℕ) → text ≢ w ++ x
-
--- the text begins with the word of a pile of at most so many levels, and goes on with the rest
-abbrev pub BeginsWithPile : List ℕ → ℕ → Pile → List ℕ → Type 0
-BeginsWithPile text most p rest = (text ≡ pile_word p ++ rest) × (levels p ≤ most)

@@ -1,8 +1,6 @@
 -- How a line writes words, numbers and cells.
-use Rattle.std.specs.Prelude.{◌≡◌, ℕ, ◌+◌, ◌-◌, ◌*◌, ◌^◌, ◌<◌, true, if◌then◌else◌, List, [], ◌∷◌, length, ◌==◌}
+use Rattle.std.specs.Prelude.{◌≡◌, ℕ, ◌+◌, ◌-◌, ◌*◌, ◌^◌, ◌<◌, true, List, [], ◌∷◌, length, ◌==◌}
 use Rattle.std.specs.List.{AllZip, slice_split}
-use Rattle.std.specs.declared.str.Split.{Split}
-use Rattle.std.specs.Str.Iter.{split_text, split_has_more, split_pattern}
 use Rattle.std.specs.Str.{all_ascii_digits}
 use Rattle.lots.specs.Texts.{digit_zero}
 use Rattle.lots.specs.declared.Lot.{Lot}
@@ -14,10 +12,6 @@ comma = 44
 -- what stands between the bytes c: one piece more than there are of c, and a piece may be empty
 abbrev pub pieces : ℕ → List ℕ → List (List ℕ)
 pieces c bs = slice_split (λ b. b == c) bs
-
--- the pieces that a cut text has still to give
-abbrev pub to_come : Split ℕ → List (List ℕ)
-to_come s = if split_has_more s then pieces (split_pattern s) (split_text s) else []
 
 -- the number that decimal digits write, where those before them write n
 abbrev pub number_after : ℕ → List ℕ → ℕ

@@ -2,7 +2,8 @@
 ghost use Rattle.std.specs.Prelude.{◌≡◌, IfOk, IfErr, MatchResult};
 ghost use Rattle.lots.specs.Texts.{space};
 ghost use Rattle.lots.specs.Tables.{Table};
-ghost use Rattle.console.specs.Lines.{overflow_call, rule_call, open_call, admit_call, narrow_call, tighten_call, solve_call, windows_call, Unread, SolveForm, Known, Asks, Answers, Made, Comes, Answered};
+ghost use Rattle.console.specs.Lines.{overflow_call, rule_call, open_call, admit_call, narrow_call, tighten_call, solve_call, windows_call, SolveForm, Known, Asks, Answers, Made, Answered};
+ghost use Rattle.console.specs.Private.Faults.{Unread, Comes};
 ghost use Rattle.console.specs.Syntax.{pieces};
 
 use crate::answers::{Answer, Fault};

@@ -17,7 +17,7 @@ impl<'a> Model for Parts<'a> {
     ghost use Rattle.std.specs.Prelude.{ℕ, List, IsTrue};
     ghost use Rattle.std.specs.Char.{is_ascii};
     ghost use Rattle.std.specs.Str.Iter.{split_pattern};
-    ghost use Rattle.console.specs.Syntax.{to_come};
+    ghost use Rattle.console.specs.Private.Parts.{to_come};
 
     ghost Value = { List (List ℕ) };
 

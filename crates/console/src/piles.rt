@@ -1,7 +1,8 @@
 // The piles that a word can name.
 ghost use Rattle.std.specs.Prelude.{◌≡◌, ℕ, List, ◌++◌, MatchOption, MatchResult};
-ghost use Rattle.console.specs.Piles.{pile_meaning, Names, Lacks, BeginsWithPile};
-ghost use Rattle.console.specs.Lines.{Unread};
+ghost use Rattle.console.specs.Piles.{pile_meaning, Names};
+ghost use Rattle.console.specs.Private.Front.{Lacks, BeginsWithPile};
+ghost use Rattle.console.specs.Private.Faults.{Unread};
 ghost use Rattle.console.specs.Laws.PileSound.{pile_sound};
 
 use crate::answers::Fault;

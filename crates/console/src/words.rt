@@ -1,8 +1,9 @@
 // Reads the words of a line: numbers and cells.
 ghost use Rattle.std.specs.Prelude.{◌≡◌, ℕ, List, length, MatchResult};
 ghost use Rattle.std.specs.List.{AllZip};
-ghost use Rattle.lots.specs.Texts.{Reads};
-ghost use Rattle.console.specs.Lines.{Unread, TableForm};
+ghost use Rattle.lots.specs.Private.Reading.{Reads};
+ghost use Rattle.console.specs.Lines.{TableForm};
+ghost use Rattle.console.specs.Private.Faults.{Unread};
 ghost use Rattle.console.specs.Syntax.{Number, Budget, lot_numbers, Cell};
 
 use crate::answers::Fault;

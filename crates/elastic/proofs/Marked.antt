@@ -1,9 +1,8 @@
 -- Lots of a table that are marked.
-use Rattle.std.proofs.Common.{◌≡◌, ℕ, zero, suc, ◌+◌, ◌<◌, ◌≤◌, Bool, true, false, if◌then◌else◌, ◌&&◌, ◌||◌, eqb, ltb, List, [], ◌∷◌, ◌++◌, length, replicate, get_or, set, sym, refl, ap, ◌∙◌, ap₂, inl, inr, arith}
+use Rattle.std.proofs.Common.{◌≡◌, ℕ, zero, suc, ◌+◌, ◌<◌, ◌≤◌, Bool, true, false, if◌then◌else◌, ◌&&◌, ◌||◌, eqb, ltb, List, [], ◌∷◌, ◌++◌, length, replicate, get_or, set, refl, ap, ◌∙◌, ap₂, inl, inr, arith}
 use Rattle.std.specs.List.{AllByRecursion}
-use Rattle.std.proofs.Math.Bool.{or-false}
-use Rattle.std.proofs.lemmas.Bool.{cases_eq, cases_lt, cond_both, and_from, and_right, or_left, or_right, eq-eqb, ne_eqb, lt-ltb, le-ltb, le-leb}
-use Rattle.std.proofs.lemmas.List.{get_or-replicate, length-replicate, get_or_past, get_or-set_same, get_or-set_other, append-nil}
+use Rattle.std.proofs.lemmas.Bool.{cases_eq, cases_lt, cond_both, and_from, or_left, or_right, eq-eqb, lt-ltb, le-leb}
+use Rattle.std.proofs.lemmas.List.{get_or-replicate, length-replicate, get_or_past, append-nil}
 use Rattle.lots.specs.Limits.{max_capacity}
 use Rattle.lots.specs.Tables.{lot_at, LawfulLot, Lawful}
 use Rattle.lots.specs.declared.Lot.{Lot}
@@ -28,31 +27,6 @@ those_all [] (x ∷ xs) h = absurd (let z : false ≡ true = h 0 (omega arith) i
 those_all (b ∷ bs) [] h = refl
 those_all (b ∷ bs) (x ∷ xs) h =
     ap₂ (λ c ys. if c then x ∷ ys else ys) (h 0 (omega arith)) (those_all bs xs (λ k l. h (suc k) (omega arith)))
-
-module _ (bs : List Bool) (n l : ℕ) where
-  -- the mark of n, which was not set
-  pub marks_more : n < l → n < length bs → (k : ℕ) → get_or (set bs n true) k false ≡ (get_or bs k false || (eqb k n && ltb n l))
-  marks_more h room k = elim (cases_eq k n) [
-    | inl e ↦
-        ap (λ m. get_or (set bs n true) m false) e ∙ get_or-set_same bs n true false room
-        ∙ sym (or_right (get_or bs k false) (eqb k n && ltb n l) (and_from (eqb k n) (ltb n l) (eq-eqb k n e) (lt-ltb n l h)))
-    | inr ne ↦
-        get_or-set_other bs n k true false ne ∙ sym (or-false (get_or bs k false))
-        ∙ ap (λ b. get_or bs k false || (b && ltb n l)) (sym (ne_eqb k n ne))
-  ]
-
-  -- and where it is set, or there is no such lot
-  pub marks_kept : (n < l → get_or bs n false ≡ true) → (k : ℕ) → get_or bs k false ≡ (get_or bs k false || (eqb k n && ltb n l))
-  marks_kept known k = elim (cases_eq k n) [
-    | inl e ↦ elim (cases_lt n l) [
-      | inl h ↦
-          let there = ap (λ m. get_or bs m false) e ∙ known h in
-          there ∙ sym (or_left (get_or bs k false) (eqb k n && ltb n l) there)
-      | inr h ↦
-          sym (or-false (get_or bs k false)) ∙ ap (λ b. get_or bs k false || b) (sym (and_right (eqb k n) (ltb n l) (le-ltb n l h)))
-    ]
-    | inr ne ↦ sym (or-false (get_or bs k false)) ∙ ap (λ b. get_or bs k false || (b && ltb n l)) (sym (ne_eqb k n ne))
-  ]
 
 -- marks from the front
 pub marked_more : (bs bs' : List Bool) (n l : ℕ) → n < l → ((k : ℕ) → get_or bs' k false ≡ (get_or bs k false || (eqb k n && ltb n l))) → ((k : ℕ) → k < n → get_or bs k false ≡ true) → (k : ℕ) → k < n + 1 → get_or bs' k false ≡ true

@@ -9,7 +9,7 @@ use Rattle.std.proofs.ByRecursion.{All-weaker, All-append, All-take, All-drop, A
 use Rattle.std.proofs.lemmas.List.{map-set, set-get_or, take-append-drop, get_or-set_same, get_or-set_other, get_or-map, get_or_default, get_or-take, length-set, length-take}
 use Rattle.std.proofs.lemmas.Bool.{cases_eq}
 use Rattle.std.specs.Ordering.{nat_cmp}
-use Rattle.elastic.specs.Points.{upto, point_at, changed_point, Small, minutes_of, Rising, Entered}
+use Rattle.elastic.specs.Private.Points.{upto, point_at, changed_point, Small, minutes_of, Rising, Entered}
 use Rattle.elastic.specs.Profile.{has}
 use Rattle.row.specs.Rows.{Stands, Put, Seated}
 use Rattle.elastic.specs.declared.profile.Point.{Point}

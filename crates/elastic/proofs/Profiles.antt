@@ -9,7 +9,7 @@ use Rattle.lots.specs.Limits.{max_capacity}
 use Rattle.lots.specs.Schedules.{spans}
 use Rattle.lots.specs.Tables.{ect, LawfulLot}
 use Rattle.lots.specs.declared.Lot.{Lot}
-use Rattle.elastic.specs.Points.{max_points, minutes_of, at_est, at_ect, at_lct, Small, Entered, Profiles}
+use Rattle.elastic.specs.Private.Points.{max_points, minutes_of, at_est, at_ect, at_lct, Small, Entered, Profiles}
 use Rattle.elastic.specs.Profile.{available, creq, minutes, has, distinct, points_of_a_lot}
 use Rattle.elastic.specs.declared.profile.Point.{Point}
 use Rattle.elastic.proofs.Counts.{has_between, distinct_between, at_most_one, points_few}

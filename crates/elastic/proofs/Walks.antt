@@ -12,7 +12,7 @@ use Rattle.lots.specs.Schedules.{spans}
 use Rattle.lots.specs.Tables.{ect, LawfulLot, Lawful}
 use Rattle.lots.specs.declared.Lot.{Lot}
 use Rattle.elastic.specs.Marked.{stand_in}
-use Rattle.elastic.specs.Points.{minutes_of, no_point, point_at, Rising, upto, Profiles}
+use Rattle.elastic.specs.Private.Points.{minutes_of, no_point, point_at, Rising, upto, Profiles}
 use Rattle.elastic.specs.Profile as profile
 use Rattle.elastic.specs.Profile.{latest, creq, minutes, has, overflow}
 use Rattle.elastic.specs.declared.profile.Point.{Point}

@@ -1,4 +1,4 @@
 pub mod Profile
 pub mod Overflow
-pub mod Points
 pub mod Marked
+pub mod Private

@@ -4,7 +4,7 @@ ghost use Rattle.std.specs.List.{AllByRecursion};
 ghost use Rattle.lots.specs.Limits.{horizon, max_capacity, max_lots};
 ghost use Rattle.lots.specs.Tables.{lot_at, LawfulLot, Lawful};
 ghost use Rattle.lots.specs.declared.Lot.{Lot};
-ghost use Rattle.elastic.specs.Points.{at_est, at_ect, at_lct, Small, Entered, Profiles, point_at, changed_point, max_points};
+ghost use Rattle.elastic.specs.Private.Points.{at_est, at_ect, at_lct, Small, Entered, Profiles, point_at, changed_point, max_points};
 ghost use Rattle.elastic.specs.Profile.{overflow as left_over, points as points_of};
 ghost use Rattle.elastic.specs.Marked.{marked_lots, stand_in};
 ghost use Rattle.std.proofs.Props.{props};

@@ -4,3 +4,4 @@ pub mod Tables
 pub mod Schedules
 pub mod Checks
 pub mod Texts
+pub mod Private

@@ -1,5 +1,5 @@
 -- How the formats write numbers, and what reading answers.
-use Rattle.std.specs.Prelude.{ℕ, List, ◌++◌, codes, decimal, Option, MatchOption}
+use Rattle.std.specs.Prelude.{ℕ, List, ◌++◌, codes, decimal}
 use Rattle.std.specs.List.{flat_map}
 
 -- the byte that parts two words
@@ -13,7 +13,3 @@ digit_zero = 48
 -- numbers in decimal form, each after a space
 abbrev pub numbers : List ℕ → List ℕ
 numbers ns = flat_map (λ n. codes " " ++ decimal n) ns
-
--- the option holds what R holds of, and is empty where R holds of nothing
-abbrev pub Reads : {X : Type 0} → (X → Type 0) → Option X → Type 0
-Reads {X} R r = MatchOption r ((x : X) → R x → ⊥) R

@@ -1,10 +1,12 @@
 -- A lot added at the end: a schedule of the longer table holds one of the shorter.
 use Rattle.std.proofs.Common.{◌≡◌, ℕ, ◌≤◌, List, [], ◌∷◌, ◌++◌, length, take, drop, refl, subst, arith}
 use Rattle.std.proofs.lemmas.List.Elements.{length_all_zip, AllZip-push}
+use Rattle.std.proofs.lemmas.List.{take-append-drop}
 use Rattle.lots.specs.Schedules.{load, Placed, Schedule}
 use Rattle.lots.specs.declared.Lot.{Lot}
+use Rattle.lots.proofs.Schedules.{placed_append}
 use Rattle.rule.specs.Meanings.{SameWork, Keeps}
-use Rattle.rule.proofs.Schedules.{schedule_same}
+use Rattle.rule.specs.Laws.Schedules.{schedule_same}
 
 placed_front : (xs zs : List Lot) (ss : List ℕ) → Placed (xs ++ zs) ss → Placed xs (take (length xs) ss)
 placed_front [] zs ss h = tt
@@ -15,11 +17,6 @@ placed_rest : (xs zs : List Lot) (ss : List ℕ) → Placed (xs ++ zs) ss → Pl
 placed_rest [] zs ss h = h
 placed_rest (x ∷ xs) zs [] h = absurd h
 placed_rest (x ∷ xs) zs (s ∷ ss) h = placed_rest xs zs ss h.1
-
-placed_append : (xs zs : List Lot) (ss : List ℕ) → Placed xs (take (length xs) ss) → Placed zs (drop (length xs) ss) → Placed (xs ++ zs) ss
-placed_append [] zs ss h k = k
-placed_append (x ∷ xs) zs [] h k = absurd h
-placed_append (x ∷ xs) zs (s ∷ ss) h k = (h.0, placed_append xs zs ss h.1 k)
 
 -- fewer lots load no more
 load_front : (t : ℕ) (xs zs : List Lot) (ss : List ℕ) → load t xs (take (length xs) ss) ≤ load t (xs ++ zs) ss
@@ -37,4 +34,4 @@ push_keeps C A B x w keep ss s =
     } in
     let p : Placed B (take (length B) ss) = subst (λ k. Placed B (take k ss)) n (keep (take (length A) ss) front).placed in
     let q : Placed (x ∷ []) (drop (length B) ss) = subst (λ k. Placed (x ∷ []) (drop k ss)) n (placed_rest A (x ∷ []) ss s.placed) in
-    schedule_same C (A ++ x ∷ []) (B ++ x ∷ []) ss (AllZip-push _ A B x x w (refl, refl)) (placed_append B (x ∷ []) ss p q) s
+    schedule_same C (A ++ x ∷ []) (B ++ x ∷ []) ss (AllZip-push _ A B x x w (refl, refl)) (subst (Placed (B ++ x ∷ [])) (take-append-drop (length B) ss) (placed_append B (x ∷ []) _ _ p q)) s

@@ -5,8 +5,9 @@ use Rattle.lots.specs.Schedules.{Placed, Schedule}
 use Rattle.lots.specs.Tables.{lot_at}
 use Rattle.lots.specs.declared.Lot.{Lot}
 use Rattle.rule.specs.Meanings.{SameWork, Keeps}
-use Rattle.rule.proofs.Schedules.{schedule_same}
-use Rattle.rule.specs.Laws.Tables.{same_work_refl, same_work_sym, same_work_trans}
+use Rattle.rule.specs.Laws.Schedules.{schedule_same}
+use Rattle.rule.specs.Laws.Tables.{same_work_refl, same_work_trans}
+use Rattle.rule.proofs.Tables.{same_work_sym}
 use Rattle.plan.specs.Tables.{lot_between}
 
 -- the lots, the one with the number i in at a or later and out by b

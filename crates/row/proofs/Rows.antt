@@ -8,7 +8,8 @@ use Rattle.std.proofs.lemmas.List.Sorted.{searchable_from_sorted}
 use Rattle.std.proofs.lemmas.List.Edits.{length-insert, get_or-insert_below, get_or-insert_at, get_or-insert_above}
 use Rattle.std.proofs.lemmas.List.{length-take, take_all, take_at}
 use Rattle.std.proofs.lemmas.Bool.{cases_lt, cases_order}
-use Rattle.row.specs.Rows.{Ascending, Below, Above, Stands, Sought, Seated, Stored}
+use Rattle.row.specs.Rows.{Ascending, Below, Above, Stands, Seated, Stored}
+use Rattle.row.specs.Private.Search.{Sought}
 use Rattle.row.specs.declared.row.Place.TheVariants.{Placed, Present, Full}
 
 -- some element of a list that has one

@@ -1,5 +1,5 @@
 -- Rows of elements in the strict order of their keys.
-use Rattle.std.specs.Prelude.{◌≡◌, ℕ, ◌+◌, ◌<◌, ◌≤◌, List, ◌++◌, length, take, drop, Ok, Err, Result, slice_index_or}
+use Rattle.std.specs.Prelude.{◌≡◌, ℕ, ◌+◌, ◌<◌, ◌≤◌, List, ◌++◌, length, take, drop, slice_index_or}
 use Rattle.std.specs.declared.cmp.Ordering.TheVariants.{Less, Equal, Greater}
 use Rattle.std.specs.declared.cmp.Ordering.{Ordering}
 use Rattle.std.specs.List.{insert, HoldsAt, AllWithin}
@@ -45,11 +45,6 @@ module _ {E K : Type 0} {R : K → K → Ordering} (o : IsTotalOrder R) (key : E
   -- the key k stands at the place i
   abbrev pub Stands : K → List E → ℕ → Type 0
   Stands k row i = (i < length row) × HoldsAt (λ x. R (key x) k ≡ Equal) row i
-
-  -- the place of the key k: where it stands, or else where it would
-  abbrev pub Sought : K → List E → Result ℕ ℕ → Type 0
-  Sought k row (Ok i) = Stands k row i
-  Sought k row (Err i) = (i ≤ length row) × Below k row i × Above k row i
 
   -- why putting e into a row gives that answer, where the row ascends
   abbrev pub Seated : E → List E → Place → Type 0

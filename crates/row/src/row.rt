@@ -2,7 +2,8 @@
 ghost use Rattle.std.specs.Prelude.{◌≡◌, ◌+◌, ◌<◌, ◌≤◌, min, ◌++◌, length, take, drop, MatchResult};
 ghost use Rattle.std.specs.List.{insert};
 ghost use Rattle.std.specs.Cmp.{IsTotalOrder};
-ghost use Rattle.row.specs.Rows.{cells_of, row_of, Ascending, Sought, Stored, Seated};
+ghost use Rattle.row.specs.Rows.{cells_of, row_of, Ascending, Stored, Seated};
+ghost use Rattle.row.specs.Private.Search.{Sought};
 
 // Where an element came to stand. Three answers, of which none is an error, and so no `Result`.
 #[derive(Clone, Copy, PartialEq, Eq, Debug)]

@@ -1,6 +1,8 @@
--- Lemmas by which the rules show the facts that they owe. No contract needs them to be read.
+-- Lemmas by which rules show the facts that they owe, and what these rest on. No contract needs them to be read.
 pub mod Tables
 pub mod Outcomes
+pub mod Schedules
 pub mod Sequence
 pub mod Turns
 pub mod Mirror
+pub mod Raises

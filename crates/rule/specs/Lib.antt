@@ -6,3 +6,4 @@ pub mod Turned
 pub mod Settled
 pub mod Raised
 pub mod Laws
+pub mod Private

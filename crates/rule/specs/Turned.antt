@@ -1,5 +1,5 @@
 -- A rule applied to the week read backwards.
-use Rattle.std.specs.Prelude.{◌≡◌, ℕ, ◌-◌, ◌≤◌, List, map}
+use Rattle.std.specs.Prelude.{◌≡◌, ℕ, ◌-◌, List, map}
 use Rattle.lots.specs.Limits.{horizon}
 use Rattle.lots.specs.Tables.{Lawful}
 use Rattle.lots.specs.declared.Lot.{Lot}
@@ -14,10 +14,6 @@ turn_outcome (to U) = to (map turn U)
 
 abbrev pub turned : Meaning → Meaning
 turned m C T = turn_outcome (m C (map turn T))
-
--- a lot whose window lies in the week
-abbrev pub InWeek : Lot → Type 0
-InWeek x = (x.est ≤ horizon) × (x.lct ≤ horizon)
 
 -- two rules mean the same: they agree on every lawful table
 abbrev pub Alike : Meaning → Meaning → Type 0

@@ -1,7 +1,8 @@
 // A rule on the week read backwards: what it does to earliest starts, it then does to latest ends.
 ghost use Rattle.std.specs.Prelude.{◌≡◌, map};
 ghost use Rattle.std.specs.List.{AllByRecursion};
-ghost use Rattle.rule.specs.Turned.{turn as turned_lot, InWeek, turned as turned_round, Alike};
+ghost use Rattle.rule.specs.Turned.{turn as turned_lot, turned as turned_round, Alike};
+ghost use Rattle.rule.specs.Private.Week.{InWeek};
 ghost use Rattle.rule.specs.Laws.Mirror.{turned_sound};
 
 use crate::{Rule, Verdict};

@@ -7,8 +7,10 @@ use Rattle.elastic.specs.Profile.{has}
 use Rattle.elastic.proofs.Keys.{key_has}
 use Rattle.rule.specs.Raised.{raise}
 use Rattle.rules.specs.Chosen.{chosen, overfull}
-use Rattle.rules.specs.Ends.{ends_of, end_minutes, DistinctEnds}
-use Rattle.rules.specs.NotFirst.{in_cut, cut, least_ect, with_stand_in, bound_by, greatest_bound, end_bound, greatest_end_bound, not_first}
+use Rattle.rules.specs.Private.Ends.{end_minutes, DistinctEnds}
+use Rattle.rules.specs.Overload.{ends_of}
+use Rattle.rules.specs.NotFirst.{in_cut, cut, least_ect, with_stand_in, bound_by, greatest_bound, not_first}
+use Rattle.rules.specs.Private.EndBounds.{end_bound, greatest_end_bound}
 use Rattle.rules.specs.declared.ends.End.{End}
 use Rattle.rules.proofs.Raised.{raise_same}
 

@@ -16,7 +16,8 @@ use Rattle.row.specs.declared.row.Place.TheVariants.{Placed, Present, Full}
 use Rattle.elastic.proofs.Counts.{has_push}
 use Rattle.elastic.proofs.Keys.{key_has, keys_put, lacks_key}
 use Rattle.row.proofs.Rows.{nowhere}
-use Rattle.rules.specs.Ends.{ends_of, end_minutes, Lowest, DistinctEnds}
+use Rattle.rules.specs.Private.Ends.{end_minutes, Lowest, DistinctEnds}
+use Rattle.rules.specs.Overload.{ends_of}
 use Rattle.rules.specs.declared.ends.End.{End}
 
 abbrev end_of : End → ℕ

@@ -13,11 +13,13 @@ use Rattle.elastic.proofs.Counts.{has_push}
 use Rattle.elastic.proofs.Keys.{key_place, key_has}
 use Rattle.elastic.proofs.Walks.{rank_less}
 use Rattle.rules.specs.Chosen.{chosen, overfull}
-use Rattle.rules.specs.Ends.{ends_of, end_minutes, Lowest, DistinctEnds}
-use Rattle.rules.specs.GrowingCuts.{Marks, MarksBefore}
-use Rattle.rules.specs.NotFirst.{in_cut, cut, least_ect, with_stand_in, end_bound, greatest_end_bound}
+use Rattle.rules.specs.Private.Ends.{end_minutes, Lowest, DistinctEnds}
+use Rattle.rules.specs.Overload.{ends_of}
+use Rattle.rules.specs.Private.GrowingCuts.{Marks, MarksBefore}
+use Rattle.rules.specs.NotFirst.{in_cut, cut, least_ect, with_stand_in}
+use Rattle.rules.specs.Private.EndBounds.{end_bound, greatest_end_bound}
 use Rattle.rules.specs.declared.ends.End.{End}
-use Rattle.rules.specs.Laws.ChosenLots.{chosen_more}
+use Rattle.rules.proofs.ChosenLots.{chosen_more}
 
 -- the lots that are marked, where the marks are the answers of a test
 pub those_chosen : (test : ℕ → Lot → Bool) (k : ℕ) (bs : List Bool) (T : List Lot) → ((j : ℕ) → j < length T → get_or bs j false ≡ test (k + j) (lot_at T j)) → marked_lots bs T ≡ chosen test k T
@@ -167,9 +169,6 @@ module _ (T : List Lot) (i : ℕ) (es : List End) (is : DistinctEnds T es) where
 module _ (C : ℕ) (T : List Lot) (i t : ℕ) where
   by_tests : (b d : Bool) → has t (ends_of (cut T i t)) ≡ b → overfull C (with_stand_in T i t) ≡ d → end_bound C T i t ≡ (if b && d then least_ect (cut T i t) else 0)
   by_tests b d e f = ap₂ (λ p q. if p && q then least_ect (cut T i t) else 0) e f
-
-  pub no_end : has t (ends_of (cut T i t)) ≡ false → end_bound C T i t ≡ 0
-  no_end e = by_tests false (overfull C (with_stand_in T i t)) e refl
 
   module _ (ends : has t (ends_of (cut T i t)) ≡ true) (left : ℕ) (is : left ≡ overflow C (with_stand_in T i t)) where
     pub none_left : left ≡ 0 → end_bound C T i t ≡ 0

@@ -4,3 +4,8 @@ pub mod Loads
 pub mod Raised
 pub mod Bounds
 pub mod GrowingCuts
+pub mod ChosenLots
+pub mod FixedParts
+pub mod Cuts
+pub mod OverloadEnds
+pub mod Searches

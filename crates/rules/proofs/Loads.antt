@@ -16,10 +16,12 @@ use Rattle.rule.specs.Meanings.{Applied, dead, IsVerdictOn}
 use Rattle.rule.specs.Raised.{raise}
 use Rattle.rule.specs.declared.Verdict.{Verdict}
 use Rattle.rule.specs.declared.Verdict.TheVariants.{Dead}
-use Rattle.rules.specs.TimeTable.{fixed, fixed_load, fixed_others, some_below, after_last, blocked_under, bound_of, time_table}
+use Rattle.rules.specs.TimeTable.{fixed, fixed_load, fixed_others, some_below, after_last, bound_of, time_table}
+use Rattle.rules.specs.Private.Loads.{blocked_under}
 use Rattle.rules.specs.declared.time_table.Loads.{Loads}
-use Rattle.rules.specs.Laws.FixedParts.{fixed_split}
-use Rattle.rules.specs.Laws.Searches.{some_none, some_here, after_last_none, after_last_same}
+use Rattle.rules.proofs.FixedParts.{fixed_split}
+use Rattle.rules.specs.Laws.Searches.{some_none}
+use Rattle.rules.proofs.Searches.{some_here, after_last_none, after_last_same}
 use Rattle.rules.proofs.Raised.{raise_same, applied_from_verdict}
 
 -- the load is a sum over the lots

@@ -1,6 +1,5 @@
 -- Some of the lots of a table, by a test of their number and themselves.
-use Rattle.std.specs.Prelude.{ℕ, suc, Bool, if◌then◌else◌, List, [], ◌∷◌, nat_lt, ◌≡◌}
-use Rattle.std.specs.Borrow.{Bor}
+use Rattle.std.specs.Prelude.{ℕ, suc, Bool, if◌then◌else◌, List, [], ◌∷◌, nat_lt}
 use Rattle.lots.specs.declared.Lot.{Lot}
 use Rattle.elastic.specs.Profile.{overflow}
 
@@ -11,7 +10,3 @@ chosen test k (x ∷ xs) = if test k x then x ∷ chosen test (suc k) xs else ch
 
 abbrev pub overfull : ℕ → List Lot → Bool
 overfull C Ω = nat_lt 0 (overflow C Ω)
-
--- whatever the test answers is what p answers
-abbrev pub Tests : (ℕ → Bor Lot → Bool → Type 0) → (ℕ → Lot → Bool) → Type 0
-Tests gives p = (k : ℕ) (x : Bor Lot) (b : Bool) → gives k x b → b ≡ p k x.now

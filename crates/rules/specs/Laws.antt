@@ -1,4 +1,4 @@
--- Lemmas by which the rules show the facts that they owe. No contract needs them to be read.
+-- Lemmas by which the rules show the facts that they owe, and what these rest on. No contract needs them to be read.
 pub mod ChosenLots
 pub mod Searches
 pub mod FixedParts

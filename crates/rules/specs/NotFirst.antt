@@ -3,11 +3,9 @@ use Rattle.std.specs.Prelude.{ℕ, zero, suc, min, max, Bool, if◌then◌else�
 use Rattle.lots.specs.Tables.{ect, lot_at}
 use Rattle.lots.specs.declared.Lot.{Lot}
 use Rattle.elastic.specs.Marked.{stand_in}
-use Rattle.elastic.specs.Profile.{has}
 use Rattle.rule.specs.Meanings.{Meaning}
 use Rattle.rule.specs.Raised.{raise}
 use Rattle.rules.specs.Chosen.{chosen, overfull}
-use Rattle.rules.specs.Ends.{ends_of}
 
 -- the lot x of the number k is not i, cannot be out by the est e of i, and must be out by the minute t
 abbrev pub in_cut : ℕ → ℕ → ℕ → ℕ → Lot → Bool
@@ -40,12 +38,3 @@ greatest_bound C T i (suc n) = max (bound_by C T i n) (greatest_bound C T i n)
 
 abbrev pub not_first : Meaning
 not_first C T = raise (λ i. greatest_bound C T i (length T)) T
-
--- the bound that the latest end t puts on the est of i, by whichever lot of the cut has it
-abbrev pub end_bound : ℕ → List Lot → ℕ → ℕ → ℕ
-end_bound C T i t = if has t (ends_of (cut T i t)) && overfull C (with_stand_in T i t) then least_ect (cut T i t) else 0
-
--- the greatest of those that the latest ends ts put
-abbrev pub greatest_end_bound : ℕ → List Lot → ℕ → List ℕ → ℕ
-greatest_end_bound C T i [] = 0
-greatest_end_bound C T i (t ∷ ts) = max (end_bound C T i t) (greatest_end_bound C T i ts)

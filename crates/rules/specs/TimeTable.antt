@@ -1,5 +1,5 @@
 -- The rule time-table: a lot starts after the minutes at which it does not fit beside the fixed parts of the others.
-use Rattle.std.specs.Prelude.{ℕ, zero, suc, ◌+◌, ◌-◌, Bool, false, if◌then◌else◌, ◌&&◌, ◌||◌, List, [], ◌∷◌, nat_le, nat_lt, slice_index}
+use Rattle.std.specs.Prelude.{ℕ, zero, suc, ◌+◌, ◌-◌, Bool, false, if◌then◌else◌, ◌&&◌, ◌||◌, List, [], ◌∷◌, nat_le, nat_lt}
 use Rattle.lots.specs.Limits.{horizon}
 use Rattle.lots.specs.Schedules.{spans}
 use Rattle.lots.specs.Tables.{ect, lst, lot_at}
@@ -35,10 +35,6 @@ after_last f (suc n) = if f n then suc n else after_last f n
 -- whether the lot j may start by t, but does not fit at t beside the fixed parts of the others
 abbrev pub blocked : ℕ → List Lot → ℕ → ℕ → Bool
 blocked C T j t = nat_le (lot_at T j).est t && nat_lt C ((lot_at T j).c + fixed_others j T t)
-
--- the same, where the loads count the fixed parts of all lots, that of the lot x too
-abbrev pub blocked_under : List ℕ → ℕ → Lot → ℕ → Bool
-blocked_under loads C x t = nat_le x.est t && nat_lt C (x.c + slice_index loads t - fixed x t)
 
 -- the new bound of the lot j: the minute after its last blocked one, of those with est ≤ t < ect, or 0
 abbrev pub bound_of : ℕ → List Lot → ℕ → ℕ

@@ -1,7 +1,8 @@
 // Some of the lots of a table, gathered to be looked at as a list of their own.
 ghost use Rattle.std.specs.Prelude.{◌≡◌, ℕ, Bool};
 ghost use Rattle.lots.specs.declared.Lot.{Lot as AnyLot};
-ghost use Rattle.rules.specs.Chosen.{Tests, chosen as those_of, overfull as more_than_fits};
+ghost use Rattle.rules.specs.Chosen.{chosen as those_of, overfull as more_than_fits};
+ghost use Rattle.rules.specs.Private.Tests.{Tests};
 
 use arrayvec::ArrayVec;
 use elastic::overflow_of;

@@ -1,5 +1,5 @@
 // The distinct latest ends of a table, in their order.
-ghost use Rattle.rules.specs.Ends.{DistinctEnds};
+ghost use Rattle.rules.specs.Private.Ends.{DistinctEnds};
 
 use row::{ArrayRow, Keyed};
 use lots::{MAX_LOTS, Table};

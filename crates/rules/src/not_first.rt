@@ -2,9 +2,11 @@
 ghost use Rattle.std.specs.Prelude.{◌≡◌, ℕ, ◌<◌, length, slice_index};
 ghost use Rattle.lots.specs.Tables.{lot_at};
 ghost use Rattle.elastic.specs.Profile.{has};
-ghost use Rattle.rules.specs.Ends.{ends_of, end_minutes, Lowest, DistinctEnds};
-ghost use Rattle.rules.specs.NotFirst.{in_cut, cut as the_cut, least_ect, end_bound, greatest_end_bound, not_first as starts_after_some};
-ghost use Rattle.rules.specs.GrowingCuts.{Marks, MarksBefore};
+ghost use Rattle.rules.specs.Private.Ends.{end_minutes, Lowest, DistinctEnds};
+ghost use Rattle.rules.specs.Overload.{ends_of};
+ghost use Rattle.rules.specs.NotFirst.{in_cut, cut as the_cut, least_ect, not_first as starts_after_some};
+ghost use Rattle.rules.specs.Private.EndBounds.{end_bound, greatest_end_bound};
+ghost use Rattle.rules.specs.Private.GrowingCuts.{Marks, MarksBefore};
 ghost use Rattle.rules.specs.Laws.NotFirstSound.{not_first_sound};
 
 use crate::chosen::chosen;

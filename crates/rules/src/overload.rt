@@ -1,7 +1,7 @@
 // Dead where some lots that must all be out by a minute are overfull.
 ghost use Rattle.std.specs.Prelude.{◌≡◌};
 ghost use Rattle.rules.specs.Chosen.{overfull};
-ghost use Rattle.rules.specs.Ends.{end_minutes};
+ghost use Rattle.rules.specs.Private.Ends.{end_minutes};
 ghost use Rattle.rules.specs.Overload.{due, some_overfull as overfull_at_some, overload as dead_if_overfull};
 ghost use Rattle.rules.specs.Laws.OverloadSound.{overload_sound};
 

@@ -2,7 +2,8 @@
 ghost use Rattle.std.specs.Prelude.{◌≡◌, ℕ, ◌<◌, length, nat_lt, slice_index};
 ghost use Rattle.lots.specs.Limits.{horizon, max_capacity};
 ghost use Rattle.lots.specs.Tables.{ect as earliest_end, LawfulLot};
-ghost use Rattle.rules.specs.TimeTable.{fixed as fixed_part, fixed_load, some_below, after_last, blocked_under, bound_of, time_table as raises_past_blocked};
+ghost use Rattle.rules.specs.TimeTable.{fixed as fixed_part, fixed_load, some_below, after_last, bound_of, time_table as raises_past_blocked};
+ghost use Rattle.rules.specs.Private.Loads.{blocked_under};
 ghost use Rattle.rules.specs.Laws.TimeTables.{time_table_sound};
 
 use lots::{HORIZON, Lot, MAX_LOTS, Refusal, Table};

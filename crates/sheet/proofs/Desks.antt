@@ -11,7 +11,7 @@ use Rattle.plan.specs.Calls.{Tightened}
 use Rattle.plan.proofs.Histories.{one_tray}
 use Rattle.plan.proofs.Tables.{empty_lawful, admitted_lawful, narrowed_lawful}
 use Rattle.sheet.specs.Lines.{Line, machine, name, lot, narrow, tighten, solve, Bounded}
-use Rattle.sheet.specs.Desks.{Orderly}
+use Rattle.sheet.specs.Private.Desks.{Orderly}
 use Rattle.sheet.specs.Runs.{Desk, new_desk, head, Due, Runs, after}
 
 pub new_orderly : Orderly new_desk

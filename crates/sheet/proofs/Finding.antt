@@ -10,7 +10,7 @@ use Rattle.std.proofs.lemmas.Fmt.{digits_decimal, digits_value-decimal, decimal-
 use Rattle.lots.specs.Limits.{max_lots}
 use Rattle.lots.specs.Texts.{numbers, space, digit_zero}
 use Rattle.sheet.specs.Lines.{Line, written, machine, name, lot, narrow, tighten, solve, newline, first_printable, last_printable, max_name, max_number, max_budget, Printable, BeginsWithLine}
-use Rattle.sheet.specs.Words.{BeginsNumeral, digit_one, digit_nine, StopsAfterNumbers, Stops, BeginsBy, BeginsWithNumber, BeginsWithNumbers, BeginsWithName}
+use Rattle.sheet.specs.Private.Words.{BeginsNumeral, digit_one, digit_nine, StopsAfterNumbers, Stops, BeginsBy, BeginsWithNumber, BeginsWithNumbers, BeginsWithName}
 use Rattle.sheet.proofs.Letters.{machine_letter, name_letter, lot_letter, narrow_letter, tighten_letter, solve_letter, no_machine, no_machine_of_many, no_lot, no_narrow, no_solve, no_name, no_letter, no_empty_line, not_ended}
 use Rattle.sheet.proofs.Lines.{stretch_one, number_one, numbers_stop, newline_follows}
 use Rattle.sheet.proofs.Numerals.{digits, no_numeral, zero_alone}

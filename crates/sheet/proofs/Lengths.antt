@@ -20,7 +20,7 @@ use Rattle.rule.proofs.Slack.{slack_fits}
 use Rattle.tree.specs.declared.Search.{Search}
 use Rattle.tree.specs.declared.Search.TheVariants.{Best, None, Spent}
 use Rattle.tree.proofs.Answers.{InWeek, solved_in_week}
-use Rattle.sheet.specs.Desks.{Orderly, first_line, window_line, most_of_command, most_of_refusal, commands_left}
+use Rattle.sheet.specs.Private.Desks.{Orderly, first_line, window_line, most_of_command, most_of_refusal, commands_left}
 use Rattle.sheet.specs.Lines.{Line, machine, name, lot, narrow, tighten, solve, newline, max_name, max_budget, Bounded}
 use Rattle.sheet.specs.PrintLines.{ended, window_lines, windows_unless_dead, tighten_print, start_lines, solve_print, refusal_print}
 use Rattle.sheet.specs.Runs.{Desk, new_desk, head, max_commands, min_print, whole_sheet, Due, Full, Runs, after, Prints, ends, runs, refused, ninth, formless, PrintOf}

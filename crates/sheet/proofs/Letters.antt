@@ -2,7 +2,7 @@
 use Rattle.std.proofs.Common.{◌≡◌, ℕ, ◌<◌, List, [], ◌∷◌, length, length-append, get_or, drop, sym, ap, refl, ◌∙◌, arith, rules}
 use Rattle.lots.specs.Limits.{max_lots}
 use Rattle.sheet.specs.Lines.{Line, written, machine, name, lot, narrow, tighten, solve, newline, BeginsWithLine}
-use Rattle.sheet.specs.Words.{BeginsBy, BeginsWithNumber, BeginsWithNumbers, BeginsWithName}
+use Rattle.sheet.specs.Private.Words.{BeginsBy, BeginsWithNumber, BeginsWithNumbers, BeginsWithName}
 use Rattle.sheet.proofs.Lines.{numbers_one, first_one, newline_follows}
 
 abbrev pub machine_letter : ℕ

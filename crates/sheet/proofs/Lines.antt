@@ -7,7 +7,7 @@ use Rattle.std.proofs.lemmas.Fmt.{digits_decimal, decimal_injective, length-deci
 use Rattle.lots.specs.Texts.{numbers}
 use Rattle.rule.specs.Laws.Tables.{lot_path}
 use Rattle.sheet.specs.Lines.{newline, max_number, max_budget, Line, machine, name, lot, narrow, tighten, solve, written, Bounded, Printable, BeginsWithLine}
-use Rattle.sheet.specs.Words.{Stops, StopsAfter}
+use Rattle.sheet.specs.Private.Words.{Stops, StopsAfter}
 use Rattle.sheet.proofs.Numerals.{digits}
 
 -- stretches

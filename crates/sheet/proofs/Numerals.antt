@@ -8,9 +8,9 @@ use Rattle.std.specs.Str.Parse.{digits_value, ParsesUnsigned}
 use Rattle.std.proofs.lemmas.Fmt.{digits_decimal, digits_value-decimal, decimal-digits_value, decimal_digit, decimal_nonempty, first_decimal, IsAscii-decimal}
 use Rattle.std.proofs.lemmas.Str.{IsUtf8-from_ascii}
 use Rattle.std.proofs.lemmas.Str.Parse.{IsNumeralModel, numerals_by_value, parse_plain}
-use Rattle.lots.specs.Texts.{Reads}
+use Rattle.lots.specs.Private.Reading.{Reads}
 use Rattle.sheet.specs.Lines.{max_budget}
-use Rattle.sheet.specs.Words.{BeginsNumeral}
+use Rattle.sheet.specs.Private.Words.{BeginsNumeral}
 
 pub digits : IsNumeralModel (AllByRecursion IsAsciiDigit) (digits_value 10)
 digits = numerals_by_value _ (search rules)

@@ -17,7 +17,7 @@ use Rattle.sheet.specs.Lines.{Line, machine, name, lot, narrow, tighten, solve, 
 use Rattle.sheet.specs.PrintLines.{ended, tighten_print, start_lines, solve_print, refusal_print}
 use Rattle.sheet.specs.Runs.{Desk, new_desk, head, Due, BeginsWithDueLine, Searched, Runs, Refuses, after, Prints, ends, runs, refused, ninth, formless, PrintOf}
 use Rattle.sheet.proofs.Lines.{line_one}
-use Rattle.sheet.specs.Desks.{Orderly}
+use Rattle.sheet.specs.Private.Desks.{Orderly}
 use Rattle.sheet.proofs.Desks.{new_orderly, after_orderly}
 
 nothing_begins : (D : Desk) (l : Line) (rest : List ℕ) → BeginsWithDueLine D [] l rest → ⊥

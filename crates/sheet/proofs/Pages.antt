@@ -1,7 +1,7 @@
 -- Writing to a page, piece after piece.
 use Rattle.std.proofs.Common.{◌≡◌, ℕ, ◌+◌, List, ◌++◌, length, take, drop, sym, ap, ◌∙◌, subst, arith, length-append, append_assoc, append-nil, refl, []}
 use Rattle.std.proofs.lemmas.List.{drop-drop}
-use Rattle.sheet.specs.Pages.{HasRoom, Adds}
+use Rattle.sheet.specs.Private.Pages.{HasRoom, Adds}
 use Rattle.sheet.specs.declared.page.Page.{Page}
 
 -- the part of the print of r that is past q is what was past it in p

@@ -3,7 +3,7 @@ use Rattle.std.proofs.Common.{◌≡◌, ℕ, List, [], ◌∷◌, ◌++◌, len
 use Rattle.std.specs.Borrow.{Bor}
 use Rattle.lots.specs.Texts.{numbers}
 use Rattle.lots.specs.declared.Lot.{Lot}
-use Rattle.sheet.specs.Pages.{bytes_of}
+use Rattle.sheet.specs.Private.Pages.{bytes_of}
 use Rattle.sheet.specs.PrintLines.{ended, window_lines, start_lines}
 
 -- a line of a word, some numbers and a name

@@ -5,9 +5,10 @@ use Rattle.std.specs.Fmt.{decimal}
 use Rattle.std.specs.List.{AllByRecursion}
 use Rattle.std.proofs.lemmas.Fmt.{digits_decimal}
 use Rattle.std.proofs.lemmas.List.{take-append-drop, drop-drop}
-use Rattle.lots.specs.Texts.{Reads, numbers, space}
+use Rattle.lots.specs.Texts.{numbers, space}
+use Rattle.lots.specs.Private.Reading.{Reads}
 use Rattle.sheet.specs.Lines.{Printable, max_number}
-use Rattle.sheet.specs.Words.{Word, CommandAt, NumberAt, NameAt, end_of, Letter, Numeral, Called, Stops, StopsAfterNumbers, Takes, BeginsWithNumber, BeginsWithNumbers, BeginsWithName}
+use Rattle.sheet.specs.Private.Words.{Word, CommandAt, NumberAt, NameAt, end_of, Letter, Numeral, Called, Stops, StopsAfterNumbers, Takes, BeginsWithNumber, BeginsWithNumbers, BeginsWithName}
 use Rattle.sheet.specs.declared.token.Token.{Token}
 use Rattle.sheet.specs.declared.token.Token.TheVariants.{Name, Number, Command}
 use Rattle.sheet.proofs.Numerals.{digits}

@@ -14,7 +14,7 @@ use Rattle.tree.specs.Answer.{solve_checks, max_trail}
 use Rattle.tree.proofs.Answers.{solved_some}
 use Rattle.plan.specs.Tables.{empty, with_lot, with_lot_between}
 use Rattle.plan.proofs.Some.{opened_some, admitted_some, narrowed_some, tightened_some}
-use Rattle.sheet.specs.Desks.{Orderly}
+use Rattle.sheet.specs.Private.Desks.{Orderly}
 use Rattle.sheet.specs.Lines.{Line, machine, name, lot, narrow, tighten, solve, written, newline}
 use Rattle.sheet.specs.PrintLines.{narrow_print, tighten_print, solve_print, refusal_print}
 use Rattle.sheet.specs.Runs.{Desk, new_desk, head, Due, MayEnd, max_sheet, whole_sheet, max_commands, Runs, Refuses, after, Prints, runs, refused, ninth, PrintOf}

@@ -1,5 +1,5 @@
 -- One line of a sheet after another.
-use Rattle.std.proofs.Common.{◌≡◌, ℕ, ◌<◌, ◌≤◌, List, [], ◌∷◌, ◌++◌, length, Ok, Err, Result, sym, refl, ap, subst, ◌∙◌, arith, length-append}
+use Rattle.std.proofs.Common.{◌≡◌, ℕ, ◌<◌, List, [], ◌∷◌, ◌++◌, length, Ok, Err, Result, sym, refl, ap, subst, ◌∙◌, arith, length-append}
 use Rattle.std.specs.Result.{IsErrAnd}
 use Rattle.lots.specs.Limits.{max_lots}
 use Rattle.lots.specs.declared.Lot.{Lot}
@@ -11,12 +11,12 @@ use Rattle.tree.specs.Answer.{Solved, max_trail}
 use Rattle.tree.specs.declared.Search.{Search}
 use Rattle.plan.specs.Calls.{Tightened}
 use Rattle.lots.specs.Tables.{Table}
-use Rattle.sheet.specs.Desks.{Orderly, RoomFor}
+use Rattle.sheet.specs.Private.Desks.{Orderly, RoomFor}
 use Rattle.sheet.specs.Lines.{Line, tighten, solve, written, newline, BeginsWithLine}
-use Rattle.sheet.specs.Pages.{HasRoom, Adds}
+use Rattle.sheet.specs.Private.Pages.{HasRoom, Adds}
 use Rattle.sheet.specs.PrintLines.{tighten_print, solve_print, refusal_print}
-use Rattle.sheet.specs.Runs.{Desk, new_desk, Due, BeginsWithDueLine, MayEnd, Full, min_print, whole_sheet, Runs, Searched, Prints, ends, runs, refused, formless}
-use Rattle.sheet.specs.Steps.{Ready, Ran, Took}
+use Rattle.sheet.specs.Runs.{Desk, new_desk, Due, BeginsWithDueLine, MayEnd, Full, whole_sheet, Runs, Searched, Prints, ends, runs, refused, formless}
+use Rattle.sheet.specs.Private.Steps.{Ready, Ran, Took}
 use Rattle.sheet.specs.declared.page.Page.{Page}
 use Rattle.sheet.proofs.Desks.{after_orderly}
 use Rattle.sheet.proofs.Lengths.{InTime, line_small, after_in_time, refused_short, runs_short}
@@ -82,18 +82,10 @@ took_next m sound D bs E rest p q o room (l, b, n, (Q, out, r, is, adds)) =
 pub refusal_room : (D : Desk) (p : Page) (e : Refusal) → Orderly D → InTime D → RoomFor D p → HasRoom p (refusal_print e D.line)
 refusal_room D p e o time room = omega (arith, room, refused_short e D.line (line_small D o time))
 
--- a page without print has room for the print of a sheet
-pub blank_room : (p : Page) → p.len ≡ 0 → min_print ≤ length p.buffer.now → RoomFor new_desk p
-blank_room p blank long = omega (arith, blank, long)
-
 -- what is left after a line that was refused
 pub refused_room : (D E : Desk) (p q : Page) (e : Refusal) (k : ℕ) → Orderly D → InTime D → RoomFor D p → E ≡ D → q ≡ p → k ≡ E.line → HasRoom q (refusal_print e k)
 refused_room D E p q e k o time room same stays number =
     subst (λ r. HasRoom r (refusal_print e k)) (sym stays) (subst (λ n. HasRoom p (refusal_print e n)) (sym (number ∙ ap (λ (F : Desk). F.line) same)) (refusal_room D p e o time room))
-
-pub refused_adds : (D E : Desk) (p q r : Page) (e : Refusal) (k : ℕ) → E ≡ D → q ≡ p → k ≡ E.line → Adds q (refusal_print e k) r → Adds p (refusal_print e D.line) r
-refused_adds D E p q r e k same stays number a =
-    subst (λ s. Adds s (refusal_print e D.line) r) stays (subst (λ n. Adds q (refusal_print e n) r) (number ∙ ap (λ (F : Desk). F.line) same) a)
 
 -- nothing more is printed at the end of a sheet
 pub prints_end : (m : Meaning) (D : Desk) (bs : List ℕ) → bs ≡ [] → MayEnd D → Prints m D bs []

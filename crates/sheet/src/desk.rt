@@ -2,13 +2,13 @@
 ghost use Rattle.std.specs.Prelude.{◌≡◌, ℕ, ◌<◌, ◌↔◌, IsTrue, length};
 ghost use Rattle.lots.specs.Limits.{max_lots};
 ghost use Rattle.rule.specs.Meanings.{Meaning};
-ghost use Rattle.sheet.specs.Desks.{HasLine};
+ghost use Rattle.sheet.specs.Private.Desks.{HasLine};
 ghost use Rattle.sheet.specs.Lines.{machine, name as named, lot as lot_line, narrow as narrow_line, tighten as tighten_line, solve as solve_line};
-ghost use Rattle.sheet.specs.Pages.{HasRoom};
+ghost use Rattle.sheet.specs.Private.Pages.{HasRoom};
 ghost use Rattle.sheet.specs.PrintLines.{narrow_print};
 ghost use Rattle.sheet.specs.Runs.{new_desk, head, Due, MayEnd, Full};
-ghost use Rattle.sheet.specs.Said.{said};
-ghost use Rattle.sheet.specs.Steps.{Ready, Ran};
+ghost use Rattle.sheet.specs.Private.Said.{said};
+ghost use Rattle.sheet.specs.Private.Steps.{Ready, Ran};
 ghost use Rattle.sheet.specs.declared.page.Page.{Page};
 
 use crate::line::Line;
@@ -37,7 +37,7 @@ pub(crate) struct Desk<'a> {
 // Clauses see the desk of the definitions.
 impl<'a> Model for Desk<'a> {
     ghost use Rattle.sheet.specs.Runs.{Desk as AnyDesk};
-    ghost use Rattle.sheet.specs.Pages.{bytes_of};
+    ghost use Rattle.sheet.specs.Private.Pages.{bytes_of};
 
     ghost Value = { AnyDesk };
 

@@ -1,6 +1,6 @@
 // The lines of a sheet.
-ghost use Rattle.sheet.specs.Said.{said};
-ghost use Rattle.sheet.specs.Words.{Takes, BeginsBy};
+ghost use Rattle.sheet.specs.Private.Said.{said};
+ghost use Rattle.sheet.specs.Private.Words.{Takes, BeginsBy};
 
 use crate::reader::Reader;
 use lots::{Lot, MAX_LOTS};

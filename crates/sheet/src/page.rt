@@ -1,7 +1,7 @@
 // A page: the print so far, at the front of a lent buffer.
 ghost use Rattle.std.specs.Prelude.{◌≡◌, ◌+◌, decimal};
 ghost use Rattle.lots.specs.Texts.{numbers as written_numbers};
-ghost use Rattle.sheet.specs.Pages.{Adds, HasRoom};
+ghost use Rattle.sheet.specs.Private.Pages.{Adds, HasRoom};
 
 use itoa::Buffer;
 

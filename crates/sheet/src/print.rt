@@ -1,7 +1,7 @@
 // What is printed for each command, and for a refusal.
 ghost use Rattle.std.specs.Prelude.{◌≡◌, ◌++◌, length, codes, take};
 ghost use Rattle.lots.specs.Texts.{numbers as written_numbers};
-ghost use Rattle.sheet.specs.Pages.{Adds, HasRoom, bytes_of};
+ghost use Rattle.sheet.specs.Private.Pages.{Adds, HasRoom, bytes_of};
 ghost use Rattle.sheet.specs.PrintLines.{ended, narrow_print, tighten_print, window_lines, start_lines, solve_print, refusal_print};
 
 use crate::page::Page;

@@ -1,8 +1,8 @@
 // Reads a sheet line by line.
 ghost use Rattle.std.specs.Prelude.{◌≡◌, ℕ, ◌≤◌, ◌↔◌, IsTrue, List, [], ◌∷◌, length, MatchOption};
 ghost use Rattle.sheet.specs.Lines.{Line as AnyLine, BeginsWithLine, newline};
-ghost use Rattle.sheet.specs.Said.{said};
-ghost use Rattle.sheet.specs.Words.{BeginsWithNumber, BeginsWithNumbers, BeginsWithName, Takes};
+ghost use Rattle.sheet.specs.Private.Said.{said};
+ghost use Rattle.sheet.specs.Private.Words.{BeginsWithNumber, BeginsWithNumbers, BeginsWithName, Takes};
 
 use crate::line::Line;
 use crate::token::Token;

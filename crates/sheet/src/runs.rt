@@ -1,9 +1,9 @@
 // A sheet is run line by line, and what its commands answer is printed.
 ghost use Rattle.std.specs.Prelude.{◌≡◌, ℕ, ◌≤◌, List, [], length, IfOk};
-ghost use Rattle.sheet.specs.Desks.{Orderly, RoomFor};
-ghost use Rattle.sheet.specs.Pages.{Adds};
+ghost use Rattle.sheet.specs.Private.Desks.{Orderly, RoomFor};
+ghost use Rattle.sheet.specs.Private.Pages.{Adds};
 ghost use Rattle.sheet.specs.Runs.{new_desk, MayEnd, Prints, PrintOf, Printed};
-ghost use Rattle.sheet.specs.Steps.{Took};
+ghost use Rattle.sheet.specs.Private.Steps.{Took};
 
 use crate::desk::Desk;
 use crate::page::Page;

@@ -1,9 +1,10 @@
 // The words of a sheet.
 ghost use Rattle.std.specs.Prelude.{◌≡◌, ◌+◌, ◌^◌, ◌<◌, ◌≤◌, ◌≢◌, length, drop, slice_index, slice_index_or, MatchOption, ◌↔◌, IsTrue, decimal};
 ghost use Rattle.std.specs.Char.{IsAsciiDigit};
-ghost use Rattle.lots.specs.Texts.{Reads, space};
+ghost use Rattle.lots.specs.Texts.{space};
+ghost use Rattle.lots.specs.Private.Reading.{Reads};
 ghost use Rattle.sheet.specs.Lines.{Printable, max_budget};
-ghost use Rattle.sheet.specs.Words.{Stretch, CommandAt, NumberAt, NameAt, end_of, Letter, Numeral, Called, BeginsNumeral};
+ghost use Rattle.sheet.specs.Private.Words.{Stretch, CommandAt, NumberAt, NameAt, end_of, Letter, Numeral, Called, BeginsNumeral};
 
 use std::str::from_utf8;
 

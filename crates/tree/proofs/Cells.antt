@@ -3,7 +3,7 @@ use Rattle.std.proofs.Common.{◌≡◌, ℕ, zero, suc, ◌+◌, ◌*◌, ◌�
 use Rattle.std.proofs.lemmas.List.{drop-take, take-take, drop_at, take_at, length-take-le}
 use Rattle.lots.specs.declared.Lot.{Lot}
 use Rattle.tree.specs.Answer.{trail_cells}
-use Rattle.tree.specs.Stack.{tables}
+use Rattle.tree.specs.Private.Stack.{tables}
 
 suc_times : (d n : ℕ) → suc d * n ≡ d * n + n
 suc_times d n = ap (λ k. k * n) (sym (add-one d)) ∙ add-mul d 1 n ∙ ap (λ k. d * n + k) (one-mul n)

@@ -9,7 +9,7 @@ use Rattle.lots.specs.Tables.{ect, Fits, LawfulLot, Lawful}
 use Rattle.lots.specs.declared.Lot.{Lot}
 use Rattle.rule.specs.Meanings.{Meaning, Outcome, dead, to, Gives, Dies, SameWork, Narrower, Hopeless, Sound}
 use Rattle.rule.proofs.Chains.{Chain, still, dies, Kept, placed_back, chain_kept, chain_dead, moves_then}
-use Rattle.rule.proofs.Schedules.{schedule_same}
+use Rattle.rule.specs.Laws.Schedules.{schedule_same}
 use Rattle.rule.specs.Laws.Tables.{same_work_refl, same_work_trans, narrower_refl, narrower_trans}
 use Rattle.tree.specs.Tree.{BestKnown, unknown, known, EndsBy, lot_out_by, under, ComesTo, Leaves, late, tight}
 

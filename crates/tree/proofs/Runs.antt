@@ -5,7 +5,7 @@ use Rattle.std.proofs.lemmas.List.{append-nil, length-append}
 use Rattle.lots.specs.Tables.{Lawful}
 use Rattle.lots.specs.declared.Lot.{Lot}
 use Rattle.rule.specs.Meanings.{Meaning, Sound}
-use Rattle.tree.specs.Stack.{tables, Standing, Advances, Stopped}
+use Rattle.tree.specs.Private.Stack.{tables, Standing, Advances, Stopped}
 use Rattle.tree.specs.Tree.{BestKnown, unknown, Visit, last_known}
 use Rattle.tree.proofs.Cells.{tables_count}
 use Rattle.tree.proofs.Law.{final_append, visit_some, visit_short}

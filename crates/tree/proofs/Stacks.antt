@@ -5,7 +5,7 @@ use Rattle.std.proofs.lemmas.List.Elements.{length_all_zip}
 use Rattle.lots.specs.Tables.{ect, lst, lot_at, Lawful}
 use Rattle.lots.specs.declared.Lot.{Lot}
 use Rattle.rule.specs.Meanings.{Meaning, to, SameWork, Narrower, Sound}
-use Rattle.tree.specs.Stack.{free, Standing, Advances, closing, forking}
+use Rattle.tree.specs.Private.Stack.{free, Standing, Advances, closing, forking}
 use Rattle.tree.specs.Tree.{BestKnown, Leaves, HasChoice, Branch, left, right, Visit, leaf, fork, last_known}
 use Rattle.tree.proofs.Ways.{right_work, right_narrower}
 use Rattle.tree.proofs.Nodes.{leaves_remains}

@@ -5,7 +5,7 @@ use Rattle.lots.specs.Limits.{horizon}
 use Rattle.lots.specs.Tables.{ect, blank, lot_at, LawfulLot, Lawful}
 use Rattle.lots.specs.declared.Lot.{Lot}
 use Rattle.rule.specs.Meanings.{Meaning, to, Sound}
-use Rattle.tree.specs.Stack.{tables, Standing}
+use Rattle.tree.specs.Private.Stack.{tables, Standing}
 use Rattle.tree.specs.Tree.{BestKnown, Leaves, Branch}
 use Rattle.tree.proofs.Cells.{tables_count}
 use Rattle.tree.proofs.Nodes.{leaves_remains}

@@ -10,7 +10,7 @@ use Rattle.lots.specs.Schedules.{spans, load, end, Placed, Schedule}
 use Rattle.lots.specs.Tables.{lst, lot_at, LawfulLot, Lawful}
 use Rattle.lots.specs.declared.Lot.{Lot}
 use Rattle.rule.specs.Meanings.{SameWork, Narrower}
-use Rattle.rule.proofs.Schedules.{schedule_same}
+use Rattle.rule.specs.Laws.Schedules.{schedule_same}
 use Rattle.rule.specs.Laws.Tables.{each_refl}
 use Rattle.tree.specs.Tree.{ways, Fixed, earliest_starts, HasChoice, Branch, at_once, a_minute_later, left, right}
 

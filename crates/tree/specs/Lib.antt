@@ -1,4 +1,3 @@
 pub mod Tree
-pub mod Stack
-pub mod Held
 pub mod Answer
+pub mod Private

@@ -3,8 +3,8 @@ ghost use Rattle.std.specs.Prelude.{◌≡◌, ◌+◌, ◌-◌, ◌*◌, ◌<�
 ghost use Rattle.lots.specs.Limits.{horizon};
 ghost use Rattle.lots.specs.Tables.{ect as earliest_end, lot_at};
 ghost use Rattle.tree.specs.Answer.{nodes as nodes_of, trail_cells, Solved, Right};
-ghost use Rattle.tree.specs.Held.{best_known, unvisited, Explores};
-ghost use Rattle.tree.specs.Stack.{Standing, Advances};
+ghost use Rattle.tree.specs.Private.Held.{best_known, unvisited, Explores};
+ghost use Rattle.tree.specs.Private.Stack.{Standing, Advances};
 ghost use Rattle.tree.specs.Tree.{ways, at_once as starts_at_once, a_minute_later as starts_a_minute_later, left as left_of, right as right_of};
 
 use crate::Search;

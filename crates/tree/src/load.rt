@@ -3,7 +3,7 @@ ghost use Rattle.std.specs.Prelude.{◌≡◌, ◌≤◌};
 ghost use Rattle.std.specs.List.{AllByRecursion};
 ghost use Rattle.lots.specs.Schedules.{spans, end as end_of};
 ghost use Rattle.lots.specs.Tables.{ect as earliest_end};
-ghost use Rattle.tree.specs.Held.{LoadWithin};
+ghost use Rattle.tree.specs.Private.Held.{LoadWithin};
 ghost use Rattle.tree.specs.Tree.{earliest_starts as starts_of};
 
 use lots::{Lot, Table};

@@ -3,7 +3,7 @@ ghost use Rattle.std.specs.Prelude.{◌≡◌, ◌↔◌, IsTrue};
 ghost use Rattle.lots.specs.Schedules.{end as end_of};
 ghost use Rattle.lots.specs.Tables.{Fits, Lawful};
 ghost use Rattle.tree.specs.Tree.{under, earliest_starts as starts_of};
-ghost use Rattle.tree.specs.Held.{best_known, BranchLot, Seen};
+ghost use Rattle.tree.specs.Private.Held.{best_known, BranchLot, Seen};
 
 use crate::load::{is_within, last_end};
 use arrayvec::ArrayVec;

@@ -2,7 +2,7 @@
 ghost use Rattle.std.specs.Prelude.{◌≡◌, ◌+◌, ◌*◌, ◌<◌, ◌≤◌, ◌↔◌, IsTrue, ◌∷◌, length, take, drop, MatchOption};
 ghost use Rattle.lots.specs.Limits.{max_lots};
 ghost use Rattle.tree.specs.Answer.{trail_cells};
-ghost use Rattle.tree.specs.Stack.{tables};
+ghost use Rattle.tree.specs.Private.Stack.{tables};
 
 use arrayvec::ArrayVec;
 use lots::{Lot, MAX_LOTS};

@@ -1,13 +1,10 @@
 -- One sound rule after another is sound.
-use Rattle.std.specs.Prelude.{ℕ, List, Ok, ◌≢◌}
-use Rattle.std.proofs.Common.{sym, ap, subst, ◌∙◌}
+use Rattle.std.specs.Prelude.{ℕ, List}
 use Rattle.lots.specs.declared.Lot.{Lot}
 use Rattle.rule.specs.Both.{and_then, both}
-use Rattle.rule.specs.Meanings.{Narrower, Meaning, Outcome, dead, to, Gives, Dies, LawfulSameWork, Keeps, Hopeless, Sound, Applied}
-use Rattle.rule.specs.declared.Verdict.{Verdict}
-use Rattle.rule.specs.declared.Verdict.TheVariants.{Moved, Dead}
-use Rattle.rule.specs.Laws.Outcomes.{gives_weaker, dies_weaker, gives_at, applied_to}
-use Rattle.rule.specs.Laws.Tables.{same_work_trans, narrower_trans, narrower_antisym}
+use Rattle.rule.specs.Meanings.{Narrower, Meaning, Outcome, dead, to, Gives, Dies, LawfulSameWork, Keeps, Hopeless, Sound}
+use Rattle.rule.specs.Laws.Outcomes.{gives_weaker, dies_weaker}
+use Rattle.rule.specs.Laws.Tables.{same_work_trans, narrower_trans}
 
 module _ (n : Meaning) (q : Sound n) (C : ℕ) (T : List Lot) where
   then_lawful : (o : Outcome) → Gives o (LawfulSameWork C T) → Gives (and_then o (n C)) (LawfulSameWork C T)
@@ -33,12 +30,3 @@ both_sound m n p q = record {
   keeps = λ C T ok. then_keeps n q C T (m C T) (p.lawful C T ok) (p.keeps C T ok);
   dies_rightly = λ C T ok. then_dies n q C T (m C T) (p.lawful C T ok) (p.keeps C T ok) (p.dies_rightly C T ok);
 }
-
--- where the second moved, the table is another than before the first: what the first took away does not come back
-pub both_moves : (m n : Meaning) → Sound m → Sound n → (C : ℕ) (T U V : List Lot) (v : Verdict) → (v ≢ Dead) → Applied m C T U (Ok v) → Applied n C U V (Ok Moved) → Applied (both m n) C T V (Ok Moved)
-both_moves m n p q C T U V v alive a b =
-    let x = applied_to m C T U v alive a in
-    let law = gives_at (m C T) (LawfulSameWork C T) U x.1 (p.lawful C T x.0) in
-    let there = gives_at (m C T) (Narrower T) U x.1 (p.narrows C T x.0) in
-    let on = gives_at (n C U) (Narrower U) V b.1.0 (q.narrows C U law.0) in
-    (x.0, (ap (λ o. and_then o (n C)) x.1 ∙ b.1.0, λ e. b.1.1 (e ∙ sym (narrower_antisym T U law.1 there (subst (Narrower U) e on)))))

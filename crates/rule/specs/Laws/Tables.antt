@@ -1,6 +1,6 @@
 -- Tables of the same work, and tables narrower than others.
 use Rattle.std.specs.Prelude.{◌≡◌, List, [], ◌∷◌, refl}
-use Rattle.std.proofs.Common.{sym, ap₂, ◌∙◌, arith}
+use Rattle.std.proofs.Common.{◌∙◌, arith}
 use Rattle.std.specs.List.{AllZip}
 use Rattle.lots.specs.declared.Lot.{Lot}
 use Rattle.rule.specs.Idle.{idle}
@@ -9,12 +9,6 @@ use Rattle.rule.specs.Meanings.{SameWork, Narrower, Sound}
 pub each_refl : {X : Type 0} (R : X → X → Type 0) → ((x : X) → R x x) → (xs : List X) → AllZip R xs xs
 each_refl R r [] = tt
 each_refl R r (x ∷ xs) = (r x, each_refl R r xs)
-
-pub each_sym : {X : Type 0} (R S : X → X → Type 0) → ((x y : X) → R x y → S y x) → (xs ys : List X) → AllZip R xs ys → AllZip S ys xs
-each_sym R S f [] [] h = tt
-each_sym R S f [] (y ∷ ys) h = absurd h
-each_sym R S f (x ∷ xs) [] h = absurd h
-each_sym R S f (x ∷ xs) (y ∷ ys) h = (f x y h.0, each_sym R S f xs ys h.1)
 
 pub each_trans : {X : Type 0} (R : X → X → Type 0) → ((x y z : X) → R x y → R y z → R x z) → (xs ys zs : List X) → AllZip R xs ys → AllZip R ys zs → AllZip R xs zs
 each_trans R t [] [] [] p q = tt
@@ -30,9 +24,6 @@ same_work_refl T = each_refl _ (λ x. (refl, refl)) T
 pub narrower_refl : (T : List Lot) → Narrower T T
 narrower_refl T = each_refl _ (λ x. omega arith) T
 
-pub same_work_sym : (T U : List Lot) → SameWork T U → SameWork U T
-same_work_sym T U w = each_sym _ _ (λ x y h. (sym h.0, sym h.1)) T U w
-
 pub same_work_trans : (T U V : List Lot) → SameWork T U → SameWork U V → SameWork T V
 same_work_trans T U V p q = each_trans _ (λ x y z a b. (b.0 ∙ a.0, b.1 ∙ a.1)) T U V p q
 
@@ -41,14 +32,6 @@ narrower_trans T U V p q = each_trans _ (λ x y z a b. omega arith) T U V p q
 
 pub lot_path : (x y : Lot) → x.est ≡ y.est → x.lct ≡ y.lct → x.p ≡ y.p → x.c ≡ y.c → x ≡ y
 lot_path x y e l p c = λ i. record { est = e i; lct = l i; p = p i; c = c i }
-
--- two tables of the same work, each narrower than the other
-pub narrower_antisym : (T U : List Lot) → SameWork T U → Narrower T U → Narrower U T → U ≡ T
-narrower_antisym [] [] w n m = refl
-narrower_antisym [] (y ∷ ys) w n m = absurd w
-narrower_antisym (x ∷ xs) [] w n m = absurd w
-narrower_antisym (x ∷ xs) (y ∷ ys) w n m =
-    ap₂ ◌∷◌ (lot_path y x (omega arith) (omega arith) w.0.0 w.0.1) (narrower_antisym xs ys w.1 n.1 m.1)
 
 pub idle_sound : Sound idle
 idle_sound = record {

@@ -8,7 +8,8 @@ use Rattle.lots.specs.Limits.{max_lots}
 use Rattle.lots.specs.Tables.{LawfulLot, Lawful}
 use Rattle.lots.specs.declared.Lot.{Lot}
 use Rattle.rule.specs.Meanings.{SameWork, Narrower}
-use Rattle.rule.specs.Turned.{turn, InWeek}
+use Rattle.rule.specs.Turned.{turn}
+use Rattle.rule.specs.Private.Week.{InWeek}
 use Rattle.rule.specs.Laws.Tables.{lot_path}
 
 pub turn_lot_twice : (x : Lot) → InWeek x → turn (turn x) ≡ x

@@ -1,5 +1,5 @@
 -- Every schedule runs the lots over their fixed parts.
-use Rattle.std.specs.Prelude.{◌≡◌, ℕ, zero, suc, ◌+◌, ◌<◌, ◌≤◌, true, if◌then◌else◌, List, [], ◌∷◌, length, nat_le, nat_lt, slice_index, refl}
+use Rattle.std.specs.Prelude.{◌≡◌, ℕ, zero, suc, ◌+◌, ◌<◌, ◌≤◌, true, if◌then◌else◌, List, [], ◌∷◌, length, nat_le, nat_lt, slice_index}
 use Rattle.std.proofs.Common.{inl, inr, arith}
 use Rattle.std.proofs.lemmas.Bool.{ltb-true, and_parts, cases_lt}
 use Rattle.std.proofs.lemmas.Bool.Decides.{nat_tests}
@@ -21,7 +21,7 @@ module _ (t : ℕ) where
   load_of_fixed (x ∷ xs) (s ∷ ss) p = omega (arith, fixed_runs x s t p.0.0 p.0.1, load_of_fixed xs ss p.1)
 
   -- the lot j runs at t too where it started by then
-  pub load_of_others : (j : ℕ) (T : List Lot) (ss : List ℕ) → Placed T ss → j < length T → slice_index ss j ≤ t → t < ect (lot_at T j) → (lot_at T j).c + fixed_others j T t ≤ load t T ss
+  load_of_others : (j : ℕ) (T : List Lot) (ss : List ℕ) → Placed T ss → j < length T → slice_index ss j ≤ t → t < ect (lot_at T j) → (lot_at T j).c + fixed_others j T t ≤ load t T ss
   load_of_others j [] ss p h started going = absurd (omega arith)
   load_of_others zero (x ∷ xs) [] p h started going = absurd p
   load_of_others (suc j) (x ∷ xs) [] p h started going = absurd p
@@ -29,12 +29,6 @@ module _ (t : ℕ) where
       omega (arith, runs_by x s t p.0.0 started going, load_of_fixed xs ss p.1)
   load_of_others (suc j) (x ∷ xs) (s ∷ ss) p h started going =
       omega (arith, fixed_runs x s t p.0.0 p.0.1, load_of_others j xs ss p.1 (omega arith) started going)
-
--- the fixed parts of all are those of one and of the others
-pub fixed_split : (j : ℕ) (T : List Lot) (t : ℕ) → j < length T → fixed_load T t ≡ fixed (lot_at T j) t + fixed_others j T t
-fixed_split j [] t h = absurd (omega arith)
-fixed_split zero (x ∷ xs) t h = refl
-fixed_split (suc j) (x ∷ xs) t h = omega (arith, fixed_split j xs t (omega arith))
 
 -- so a lot does not start by a minute at which it is blocked
 pub blocked_before : (C : ℕ) (T : List Lot) (ss : List ℕ) → Schedule C T ss → (j : ℕ) → j < length T → (t : ℕ) → t < ect (lot_at T j) → blocked C T j t ≡ true → t < slice_index ss j

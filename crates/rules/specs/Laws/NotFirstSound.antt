@@ -6,25 +6,18 @@ use Rattle.std.proofs.ByRecursion.{All-get_or}
 use Rattle.std.proofs.lemmas.List.{append-nil}
 use Rattle.std.proofs.lemmas.Bool.{eq-eqb, cases_lt, and_parts, ltb-true, leb-false}
 use Rattle.std.proofs.lemmas.Bool.Decides.{nat_tests}
-use Rattle.lots.specs.Limits.{horizon}
 use Rattle.lots.specs.Schedules.{spans, load, Placed, Schedule}
 use Rattle.lots.specs.Tables.{ect, lot_at, LawfulLot, Lawful}
 use Rattle.lots.specs.declared.Lot.{Lot}
 use Rattle.elastic.specs.Marked.{stand_in_lot}
 use Rattle.elastic.specs.Profile.{earliest, overflow}
 use Rattle.elastic.proofs.Soundness.{overflow_of_schedulable}
+use Rattle.lots.proofs.Schedules.{placed_append}
 use Rattle.rule.specs.Meanings.{Sound}
-use Rattle.rule.proofs.Raises.{raise_lawful, raise_narrows, raise_keeps, raise_dies}
+use Rattle.rule.specs.Laws.Raises.{raise_lawful, raise_narrows, raise_keeps, raise_dies}
 use Rattle.rules.specs.Chosen.{chosen, overfull}
 use Rattle.rules.specs.NotFirst.{in_cut, cut, least_ect, with_stand_in, bound_by, greatest_bound, not_first}
-use Rattle.rules.specs.Laws.ChosenLots.{chosen_starts, load_cond, chosen_placed, chosen_load, chosen_schedule, chosen_each}
-
--- two lists of lots, each with its starts
-placed_append : (xs ys : List Lot) (ss us : List ℕ) → Placed xs ss → Placed ys us → Placed (xs ++ ys) (ss ++ us)
-placed_append [] ys [] us p q = q
-placed_append [] ys (s ∷ ss) us p q = absurd p
-placed_append (x ∷ xs) ys [] us p q = absurd p
-placed_append (x ∷ xs) ys (s ∷ ss) us p q = (p.0, placed_append xs ys ss us p.1 q)
+use Rattle.rules.specs.Laws.ChosenLots.{chosen_starts, load_cond, chosen_placed, chosen_load, chosen_schedule}
 
 load_append : (t : ℕ) (xs ys : List Lot) (ss us : List ℕ) → Placed xs ss → load t (xs ++ ys) (ss ++ us) ≡ load t xs ss + load t ys us
 load_append t [] ys [] us p = omega arith
@@ -154,13 +147,3 @@ not_first_sound = record {
   keeps = λ C T ok. raise_keeps (λ i. greatest_bound C T i (length T)) C T ok (λ ss s i h. greatest_kept C T ok ss s i h (length T));
   dies_rightly = λ C T ok. raise_dies (λ i. greatest_bound C T i (length T)) C T ok (λ ss s i h. greatest_kept C T ok ss s i h (length T));
 }
-
--- the least ect of a cut lies in the week
-module _ (C : ℕ) where
-  least_in_week : (Ω : List Lot) → AllByRecursion (LawfulLot C) Ω → least_ect Ω ≤ horizon
-  least_in_week [] a = omega arith
-  least_in_week (x ∷ []) a = omega (arith, a.0.has_time, a.0.in_week)
-  least_in_week (x ∷ (y ∷ ys)) a = omega (arith, a.0.has_time, a.0.in_week)
-
-  pub cut_least : (T : List Lot) → Lawful C T → (i t : ℕ) → least_ect (cut T i t) ≤ horizon
-  cut_least T ok i t = least_in_week (cut T i t) (chosen_each (in_cut i (lot_at T i).est t) (LawfulLot C) 0 T ok.each)

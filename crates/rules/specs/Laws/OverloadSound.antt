@@ -1,23 +1,19 @@
 -- Overload finds no schedule where it is dead.
-use Rattle.std.specs.Prelude.{◌≡◌, ℕ, Bool, true, if◌then◌else◌, ◌||◌, List, [], ◌∷◌, ◌==◌, nat_le, refl}
-use Rattle.std.proofs.Common.{inl, inr, sym, ap, subst, ◌∙◌, arith}
-use Rattle.std.specs.List.{list_any}
-use Rattle.std.proofs.lemmas.Bool.{ltb-true, or_cases, or_left, or_right, eqb-true, eq-eqb, false≢true}
-use Rattle.std.proofs.lemmas.Bool.Decides.{same_from_decides}
+use Rattle.std.specs.Prelude.{◌≡◌, ℕ, Bool, true, List, [], ◌∷◌, nat_le}
+use Rattle.std.proofs.Common.{inl, inr, arith}
+use Rattle.std.proofs.lemmas.Bool.{ltb-true, or_cases, false≢true}
 use Rattle.lots.specs.declared.Lot.{Lot}
-use Rattle.elastic.specs.Profile.{overflow, has}
+use Rattle.elastic.specs.Profile.{overflow}
 use Rattle.elastic.proofs.Soundness.{overflow_of_schedulable}
 use Rattle.rule.specs.Meanings.{Narrower, LawfulSameWork, Keeps, Hopeless, Sound, dead, to}
 use Rattle.rule.specs.Laws.Outcomes.{gives_either, dies_either}
 use Rattle.rule.specs.Laws.Tables.{same_work_refl, narrower_refl}
 use Rattle.rules.specs.Chosen.{chosen, overfull}
-use Rattle.rules.specs.Ends.{ends_of, end_minutes, DistinctEnds}
-use Rattle.rules.specs.Overload.{due, some_overfull, overload}
-use Rattle.rules.specs.declared.ends.End.{End}
+use Rattle.rules.specs.Overload.{ends_of, due, some_overfull, overload}
 use Rattle.rules.specs.Laws.ChosenLots.{chosen_schedule}
 
 -- lots of which some are overfull have no schedule
-pub overfull_hopeless : (test : ℕ → Lot → Bool) (C : ℕ) (T : List Lot) → overfull C (chosen test 0 T) ≡ true → Hopeless C T
+overfull_hopeless : (test : ℕ → Lot → Bool) (C : ℕ) (T : List Lot) → overfull C (chosen test 0 T) ≡ true → Hopeless C T
 overfull_hopeless test C T full ss s =
     omega (arith, ltb-true 0 (overflow C (chosen test 0 T)) full, overflow_of_schedulable C (chosen test 0 T) _ (chosen_schedule test C T ss s))
 
@@ -35,33 +31,3 @@ overload_sound = record {
   keeps = λ C T ok. gives_either (to T) (Keeps C T) (some_overfull C T (ends_of T)) (λ ss s. s);
   dies_rightly = λ C T ok. dies_either (to T) (Hopeless C T) (some_overfull C T (ends_of T)) (some_hopeless C T (ends_of T)) tt;
 }
-
--- only which minutes there are matters, not how often or in which order
-module _ (C : ℕ) (T : List Lot) where
-  some_from : (ts : List ℕ) (t : ℕ) → has t ts ≡ true → overfull C (due t T) ≡ true → some_overfull C T ts ≡ true
-  some_from [] t h full = absurd (false≢true h)
-  some_from (u ∷ us) t h full = elim (or_cases (t == u) (has t us) h) [
-    | inl e ↦ or_left (overfull C (due u T)) (some_overfull C T us) (subst (λ v. overfull C (due v T) ≡ true) (eqb-true t u e) full)
-    | inr g ↦ or_right (overfull C (due u T)) (some_overfull C T us) (some_from us t g full)
-  ]
-
-  some_moved : (ts us : List ℕ) → ((t : ℕ) → has t ts ≡ true → has t us ≡ true) → some_overfull C T ts ≡ true → some_overfull C T us ≡ true
-  some_moved [] us into h = absurd (false≢true h)
-  some_moved (t ∷ ts) us into h = elim (or_cases (overfull C (due t T)) (some_overfull C T ts) h) [
-    | inl full ↦ some_from us t (into t (or_left (t == t) (has t ts) (eq-eqb t t refl))) full
-    | inr more ↦ some_moved ts us (λ u g. into u (or_right (u == t) (has u ts) g)) more
-  ]
-
-  pub some_same : (ts us : List ℕ) → ((t : ℕ) → has t ts ≡ has t us) → some_overfull C T ts ≡ some_overfull C T us
-  some_same ts us same =
-      same_from_decides (some_overfull C T ts) (some_overfull C T us) (λ e. e, λ e. e)
-      (some_moved us ts (λ t h. same t ∙ h), some_moved ts us (λ t h. sym (same t) ∙ h))
-
-  -- the search through the distinct ends
-  pub any_overfull : (es : List End) → list_any (λ (x : End). overfull C (due x.lct T)) es ≡ some_overfull C T (end_minutes es)
-  any_overfull [] = refl
-  any_overfull (x ∷ xs) = ap (λ b. overfull C (due x.lct T) || b) (any_overfull xs)
-
--- the distinct ends tell as much as the lots
-pub overload_by_ends : (C : ℕ) (T : List Lot) (es : List End) → DistinctEnds T es → (b d : Bool) → b ≡ some_overfull C T (end_minutes es) → b ≡ d → overload C T ≡ (if d then dead else to T)
-overload_by_ends C T es is b d told e = ap (λ q. if q then dead else to T) (sym (some_same C T (end_minutes es) (ends_of T) is.ends) ∙ sym told ∙ e)

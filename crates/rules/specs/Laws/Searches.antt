@@ -1,7 +1,7 @@
 -- Tests of the minutes below a number.
-use Rattle.std.specs.Prelude.{◌≡◌, ℕ, zero, suc, ◌<◌, ◌≤◌, Bool, true, false, if◌then◌else◌, ◌||◌, refl}
-use Rattle.std.proofs.Common.{inl, inr, ap₂, subst, ◌∙◌, arith}
-use Rattle.std.proofs.lemmas.Bool.{cases_order, or_from, or_left, or_right, cond_both, cond-false}
+use Rattle.std.specs.Prelude.{◌≡◌, ℕ, zero, suc, ◌<◌, ◌≤◌, Bool, true, false, refl}
+use Rattle.std.proofs.Common.{arith}
+use Rattle.std.proofs.lemmas.Bool.{or_from, cond_both}
 use Rattle.rules.specs.TimeTable.{some_below, after_last}
 
 pub some_none : (f : ℕ → Bool) (n : ℕ) → ((t : ℕ) → t < n → f t ≡ false) → some_below f n ≡ false
@@ -9,31 +9,7 @@ unfolding some_below
 some_none f zero h = refl
 some_none f (suc n) h = or_from (f n) (some_below f n) (h n (omega arith)) (some_none f n (λ t k. h t (omega arith)))
 
-pub some_here : (f : ℕ → Bool) (n t : ℕ) → t < n → f t ≡ true → some_below f n ≡ true
-unfolding some_below
-some_here f zero t h e = absurd (omega arith)
-some_here f (suc n) t h e = elim (cases_order t n) [
-  | inl same ↦ or_left (f n) (some_below f n) (subst (λ k. f k ≡ true) same e)
-  | inr (inl less) ↦ or_right (f n) (some_below f n) (some_here f n t less e)
-  | inr (inr more) ↦ absurd (omega arith)
-]
-
-pub some_same : (f g : ℕ → Bool) (n : ℕ) → ((t : ℕ) → t < n → f t ≡ g t) → some_below f n ≡ some_below g n
-unfolding some_below
-some_same f g zero h = refl
-some_same f g (suc n) h = ap₂ ◌||◌ (h n (omega arith)) (some_same f g n (λ t k. h t (omega arith)))
-
 pub after_last_le : (f : ℕ → Bool) (n b : ℕ) → ((t : ℕ) → t < n → f t ≡ true → t < b) → after_last f n ≤ b
 unfolding after_last
 after_last_le f zero b h = omega arith
 after_last_le f (suc n) b h = cond_both (f n) (suc n) (after_last f n) (λ m. m ≤ b) (λ e. omega (arith, h n (omega arith) e)) (λ e. after_last_le f n b (λ t k. h t (omega arith)))
-
-pub after_last_none : (f : ℕ → Bool) (n : ℕ) → ((t : ℕ) → t < n → f t ≡ false) → after_last f n ≡ 0
-unfolding after_last
-after_last_none f zero h = refl
-after_last_none f (suc n) h = cond-false (f n) (suc n) (after_last f n) (h n (omega arith)) ∙ after_last_none f n (λ t k. h t (omega arith))
-
-pub after_last_same : (f g : ℕ → Bool) (n : ℕ) → ((t : ℕ) → t < n → f t ≡ g t) → after_last f n ≡ after_last g n
-unfolding after_last
-after_last_same f g zero h = refl
-after_last_same f g (suc n) h = ap₂ (λ b m. if b then suc n else m) (h n (omega arith)) (after_last_same f g n (λ t k. h t (omega arith)))

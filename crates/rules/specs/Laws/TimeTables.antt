@@ -8,7 +8,7 @@ use Rattle.lots.specs.Tables.{ect, lot_at}
 use Rattle.lots.specs.declared.Lot.{Lot}
 use Rattle.rule.specs.Meanings.{Sound, Hopeless}
 use Rattle.rule.specs.Laws.Outcomes.{gives_either, dies_either}
-use Rattle.rule.proofs.Raises.{raise_lawful, raise_narrows, raise_keeps, raise_dies}
+use Rattle.rule.specs.Laws.Raises.{raise_lawful, raise_narrows, raise_keeps, raise_dies}
 use Rattle.rules.specs.TimeTable.{fixed_load, some_below, blocked, bound_of, time_table}
 use Rattle.rules.specs.Laws.FixedParts.{load_of_fixed, blocked_before}
 use Rattle.rules.specs.Laws.Searches.{some_none, after_last_le}

@@ -1,6 +1,6 @@
 use Rattle.std.proofs.Common.{◌≡◌, ◌++◌, codes, arith, rules}
 use Rattle.console.proofs.PileWords.{handed_on, or_unknown, no_level, nothing_turned, turned_unclosed, no_first, both_uncut, no_second, both_unclosed, alone}
-use Rattle.console.specs.Piles.{Lacks}
+use Rattle.console.specs.Private.Front.{Lacks}
 use Rattle.console.proofs.piles.+front.Goals as goal
 
 pub returns-then-levels-eq0 : goal.returns-then-levels-eq0

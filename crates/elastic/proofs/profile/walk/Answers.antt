@@ -1,6 +1,6 @@
 use Rattle.std.proofs.Common.{◌≡◌, min, max, arith}
 use Rattle.std.proofs.lemmas.Int.{ints}
-use Rattle.elastic.specs.Points.{point_at}
+use Rattle.elastic.specs.Private.Points.{point_at}
 use Rattle.elastic.proofs.Walks.{walks_from, walks_at, walked, first_part, second_part, walks_over, left_few, next_in_week, next_available, next_required, next_available_few, next_required_few}
 use Rattle.elastic.proofs.profile.walk.Goals as goal
 

@@ -2,7 +2,7 @@ use Rattle.std.proofs.Common.{List, drop}
 use Rattle.lots.specs.Limits.{max_capacity}
 use Rattle.lots.specs.Tables.{Lawful}
 use Rattle.lots.specs.declared.Lot.{Lot}
-use Rattle.elastic.specs.Points.{Profiles}
+use Rattle.elastic.specs.Private.Points.{Profiles}
 use Rattle.elastic.proofs.Minutes.{usable}
 use Rattle.elastic.proofs.Walks.{Walks}
 use Rattle.elastic.proofs.profile.walk.Given as goal

@@ -1,7 +1,7 @@
 use Rattle.std.proofs.Common.{get_or, sym, ◌∙◌}
 use Rattle.std.proofs.lemmas.List.{at_drop_all}
 use Rattle.rule.specs.Raised.{later_lots, all_fit}
-use Rattle.rule.proofs.Raises.{fit_more}
+use Rattle.rule.proofs.Raising.{fit_more}
 use Rattle.rule.proofs.starts.every_run_fits.Goals as goal
 
 pub loop-number-preserved : goal.loop-number-preserved

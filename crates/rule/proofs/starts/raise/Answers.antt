@@ -1,6 +1,6 @@
 use Rattle.std.proofs.Common.{sym, ◌∙◌, arith}
 use Rattle.std.proofs.lemmas.List.{set-get_or}
-use Rattle.rule.proofs.Raises.{kept_later, moved_later, moved_other, answers_from_changed}
+use Rattle.rule.proofs.Raising.{kept_later, moved_later, moved_other, verdict_from_changed}
 use Rattle.rule.proofs.starts.raise.Goals as goal
 use Rattle.rule.proofs.starts.raise.Goals.{then-lot-bound, else-lot-bound}
 
@@ -21,6 +21,6 @@ loop-number-preserved c =
 pub returns : goal.returns
 returns c = record {
   answer =
-      answers_from_changed _ c.loop-number.invariant.0 c.loop-number-test.false c.loop-number.auto.lots
+      verdict_from_changed _ c.loop-number.invariant.0 c.loop-number-test.false c.loop-number.auto.lots
       (sym c.every_run_fits.ensures.answer ∙ c.if-not-every_run_fits.false) c.loop-number.invariant.1;
 }

@@ -1,5 +1,5 @@
 use Rattle.std.proofs.Common.{get_or}
-use Rattle.rule.proofs.Raises.{RaisedUpTo, Changed}
+use Rattle.rule.proofs.Raising.{RaisedUpTo, Changed}
 use Rattle.rule.proofs.starts.raise.Given as goal
 
 abbrev pub invariant-loop-number : goal.invariant-loop-number

@@ -4,7 +4,8 @@ use Rattle.std.proofs.lemmas.List.Edits.{map_over_more}
 use Rattle.std.proofs.ByRecursion.{All-get_or}
 use Rattle.std.proofs.lemmas.List.{get_or_default}
 use Rattle.lots.specs.Tables.{lot_at}
-use Rattle.rule.specs.Turned.{turn, InWeek}
+use Rattle.rule.specs.Turned.{turn}
+use Rattle.rule.specs.Private.Week.{InWeek}
 use Rattle.rule.proofs.turned.turn.Goals as goal
 
 pub turn_lot-requires : goal.turn_lot-requires

@@ -1,5 +1,5 @@
 use Rattle.std.proofs.Common.{refl}
-use Rattle.rule.specs.Laws.Mirror.{turned_twice}
+use Rattle.rule.proofs.Turning.{turned_twice}
 use Rattle.rule.proofs.turned.turned_twice.Goals as goal
 
 pub returns : goal.returns

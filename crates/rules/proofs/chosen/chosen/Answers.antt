@@ -1,5 +1,5 @@
 use Rattle.std.proofs.Common.{length, sym, ap, ◌∙◌, arith}
-use Rattle.rules.specs.Laws.ChosenLots.{chosen_takes, chosen_skips}
+use Rattle.rules.proofs.ChosenLots.{chosen_takes, chosen_skips}
 use Rattle.rules.proofs.chosen.chosen.Goals as goal
 use Rattle.rules.proofs.chosen.chosen.Goals.{then-test, else-test}
 

@@ -1,6 +1,7 @@
 use Rattle.std.proofs.Common.{◌≡◌, ℕ, ◌≤◌, Bool, length, take}
 use Rattle.lots.specs.declared.Lot.{Lot}
-use Rattle.rules.specs.Chosen.{Tests, chosen}
+use Rattle.rules.specs.Chosen.{chosen}
+use Rattle.rules.specs.Private.Tests.{Tests}
 use Rattle.rules.proofs.chosen.chosen.Given as goal
 
 abbrev pub invariant-loop-number : goal.invariant-loop-number

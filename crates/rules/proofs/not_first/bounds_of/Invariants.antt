@@ -1,7 +1,7 @@
 use Rattle.std.proofs.Common.{◌≡◌, ℕ, ◌<◌, length, get_or}
 use Rattle.lots.specs.Limits.{max_lots}
-use Rattle.rules.specs.Ends.{end_minutes}
-use Rattle.rules.specs.NotFirst.{greatest_end_bound}
+use Rattle.rules.specs.Private.Ends.{end_minutes}
+use Rattle.rules.specs.Private.EndBounds.{greatest_end_bound}
 use Rattle.rules.proofs.not_first.bounds_of.Given as goal
 
 abbrev pub invariant-loop-number : goal.invariant-loop-number

@@ -1,7 +1,7 @@
 use Rattle.std.proofs.Common.{sym, ◌∙◌, subst, nat_le, rules}
 use Rattle.lots.specs.Tables.{Lawful}
 use Rattle.lots.specs.declared.Lot.{Lot}
-use Rattle.rules.specs.Laws.ChosenLots.{chosen_lawful}
+use Rattle.rules.proofs.ChosenLots.{chosen_lawful}
 use Rattle.rules.proofs.overload.overfull_by.Goals as goal
 
 pub invariant_of-is_overfull : goal.invariant_of-is_overfull

@@ -4,7 +4,7 @@ use Rattle.std.proofs.lemmas.Iterator.Search.{any_from_yields_List}
 use Rattle.rules.specs.Chosen.{overfull}
 use Rattle.rules.specs.Overload.{due}
 use Rattle.rules.specs.declared.ends.End.{End}
-use Rattle.rules.specs.Laws.OverloadSound.{any_overfull}
+use Rattle.rules.proofs.OverloadEnds.{any_overfull}
 use Rattle.rules.proofs.overload.some_overfull.Goals as goal
 
 pub returns : goal.returns

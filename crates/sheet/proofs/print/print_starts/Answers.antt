@@ -1,5 +1,5 @@
 use Rattle.std.proofs.Common.{◌≡◌, [], length, take, inl, inr}
-use Rattle.sheet.specs.Pages.{bytes_of}
+use Rattle.sheet.specs.Private.Pages.{bytes_of}
 use Rattle.sheet.specs.PrintLines.{start_lines}
 use Rattle.sheet.proofs.Pages.{room_past, adds_past, adds_none}
 use Rattle.sheet.proofs.PrintLines.{starts_from, no_starts, no_starts_unnamed}

@@ -1,5 +1,5 @@
 use Rattle.std.proofs.Common.{◌≡◌, [], inl, inr}
-use Rattle.sheet.specs.Pages.{bytes_of}
+use Rattle.sheet.specs.Private.Pages.{bytes_of}
 use Rattle.sheet.specs.PrintLines.{window_lines}
 use Rattle.sheet.proofs.Pages.{room_past, adds_past, adds_none}
 use Rattle.sheet.proofs.PrintLines.{windows_from, no_windows, no_windows_unnamed}

@@ -1,5 +1,5 @@
 use Rattle.std.proofs.Common.{◌≡◌}
-use Rattle.sheet.specs.Pages.{Adds, HasRoom, bytes_of}
+use Rattle.sheet.specs.Private.Pages.{Adds, HasRoom, bytes_of}
 use Rattle.sheet.specs.PrintLines.{window_lines}
 use Rattle.sheet.specs.declared.page.Page.{Page}
 use Rattle.sheet.proofs.print.print_windows.Given as goal

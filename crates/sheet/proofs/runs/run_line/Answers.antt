@@ -1,7 +1,7 @@
 use Rattle.std.proofs.Common.{refl}
 use Rattle.std.proofs.lemmas.Bool.Decides.{not_from_Decides}
 use Rattle.sheet.specs.Runs.{ninth}
-use Rattle.sheet.specs.Said.{said}
+use Rattle.sheet.specs.Private.Said.{said}
 use Rattle.sheet.proofs.Steps.{no_line, not_due, took_line}
 use Rattle.sheet.proofs.runs.run_line.Goals as goal
 

@@ -1,6 +1,6 @@
 use Rattle.std.proofs.Common.{◌≡◌, ℕ, List, length}
-use Rattle.sheet.specs.Desks.{Orderly, RoomFor}
-use Rattle.sheet.specs.Pages.{Adds}
+use Rattle.sheet.specs.Private.Desks.{Orderly, RoomFor}
+use Rattle.sheet.specs.Private.Pages.{Adds}
 use Rattle.sheet.specs.Runs.{new_desk, Prints}
 use Rattle.sheet.specs.declared.page.Page.{Page}
 use Rattle.sheet.proofs.Lengths.{InTime}

@@ -1,4 +1,4 @@
-use Rattle.tree.specs.Stack.{closing, forking}
+use Rattle.tree.specs.Private.Stack.{closing, forking}
 use Rattle.tree.proofs.Visits.{fork_in_week, fork_has_room}
 use Rattle.tree.proofs.explore.visit.Goals as goal
 

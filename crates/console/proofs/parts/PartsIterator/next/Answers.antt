@@ -1,7 +1,7 @@
 use Rattle.std.proofs.Common.{List, ℕ}
 use Rattle.std.specs.Iterator.{YieldsFirstRef}
 use Rattle.std.proofs.lemmas.Bool.{ltb-true}
-use Rattle.console.specs.Syntax.{to_come}
+use Rattle.console.specs.Private.Parts.{to_come}
 use Rattle.console.proofs.Pieces.{next_piece, progress}
 use Rattle.console.proofs.parts.PartsIterator.next.Goals as goal
 

@@ -1,6 +1,6 @@
 use Rattle.std.proofs.Common.{sym, subst, arith}
 use Rattle.lots.specs.Limits.{max_capacity}
-use Rattle.elastic.specs.Points.{Small}
+use Rattle.elastic.specs.Private.Points.{Small}
 use Rattle.elastic.proofs.Profiles.{few_from_profile, few_more, few_small, entered_as, small_at_est, small_at_ect, small_at_lct, profiles_between}
 use Rattle.elastic.proofs.profile.Points.add.Goals as goal
 

@@ -1,6 +1,6 @@
 use Rattle.std.proofs.Common.{◌<◌, length, sym, subst}
 use Rattle.std.specs.Cmp.{nat_cmp_total}
-use Rattle.elastic.specs.Points.{max_points}
+use Rattle.elastic.specs.Private.Points.{max_points}
 use Rattle.elastic.proofs.Points.{entered_by_put, entered_by_alter, small_there}
 use Rattle.elastic.proofs.profile.Points.enter.Goals as goal
 

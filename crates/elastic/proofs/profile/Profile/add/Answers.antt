@@ -1,6 +1,6 @@
 use Rattle.std.proofs.Common.{◌<◌, length, sym, subst, arith}
 use Rattle.lots.proofs.Tables.{lawful_under_most}
-use Rattle.elastic.specs.Points.{Profiles}
+use Rattle.elastic.specs.Private.Points.{Profiles}
 use Rattle.elastic.proofs.Marked.{those_more, some_missing}
 use Rattle.elastic.proofs.profile.Profile.add.Goals as goal
 

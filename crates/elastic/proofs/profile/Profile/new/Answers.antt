@@ -1,6 +1,6 @@
 use Rattle.std.proofs.Common.{[], sym, subst}
 use Rattle.lots.specs.Limits.{max_lots}
-use Rattle.elastic.specs.Points.{Profiles}
+use Rattle.elastic.specs.Private.Points.{Profiles}
 use Rattle.elastic.proofs.Marked.{those_none, none_marked}
 use Rattle.elastic.proofs.Profiles.{profiles_none}
 use Rattle.elastic.proofs.profile.Profile.new.Goals as goal

@@ -1,6 +1,6 @@
 use Rattle.std.proofs.Common.{length, sym, ap, ◌∙◌, subst}
 use Rattle.elastic.specs.Marked.{marked_lots}
-use Rattle.elastic.specs.Points.{Profiles}
+use Rattle.elastic.specs.Private.Points.{Profiles}
 use Rattle.elastic.specs.Profile.{overflow}
 use Rattle.elastic.proofs.Marked.{those_lawful, nothing_kept}
 use Rattle.elastic.proofs.profile.Profile.overflow.Goals as goal

@@ -1,6 +1,6 @@
 use Rattle.std.proofs.Common.{length, sym, ap, ◌∙◌, subst, ◌++◌, arith}
 use Rattle.elastic.specs.Marked.{marked_lots, stand_in}
-use Rattle.elastic.specs.Points.{Profiles}
+use Rattle.elastic.specs.Private.Points.{Profiles}
 use Rattle.elastic.specs.Profile.{overflow}
 use Rattle.elastic.proofs.Marked.{those_lawful, trays_fit}
 use Rattle.elastic.proofs.profile.Profile.overflow_beside.Goals as goal

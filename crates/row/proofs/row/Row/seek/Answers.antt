@@ -1,6 +1,7 @@
 use Rattle.std.proofs.Common.{rules, subst}
 use Rattle.std.proofs.lemmas.List.Sorted.{answers_always}
-use Rattle.row.specs.Rows.{Ascending, Sought}
+use Rattle.row.specs.Rows.{Ascending}
+use Rattle.row.specs.Private.Search.{Sought}
 use Rattle.row.proofs.Rows.{take_min, sought}
 use Rattle.row.proofs.row.Row.seek.Goals as goal
 

@@ -1,4 +1,4 @@
-use Rattle.rule.specs.Laws.Sequence.{both_moves}
+use Rattle.rule.proofs.Applications.{both_moves}
 use Rattle.rule.proofs.both.BothRule.apply.Goals as goal
 
 pub returns-in-Moved : goal.returns-in-Moved

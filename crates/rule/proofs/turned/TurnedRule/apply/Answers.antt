@@ -1,8 +1,8 @@
 use Rattle.std.proofs.Common.{sym, subst}
 use Rattle.rule.specs.Meanings.{Applied}
 use Rattle.rule.specs.Turned.{turned}
-use Rattle.rule.specs.Laws.Mirror.{turned_applied}
-use Rattle.rule.specs.Laws.Outcomes.{applied_lawful}
+use Rattle.rule.proofs.Turning.{turned_applied}
+use Rattle.rule.proofs.Applications.{applied_lawful}
 use Rattle.rule.specs.Laws.Turns.{lawful_week, turn_lawful}
 use Rattle.rule.proofs.turned.TurnedRule.apply.Goals as goal
 

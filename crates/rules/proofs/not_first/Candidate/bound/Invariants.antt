@@ -1,7 +1,7 @@
 use Rattle.std.proofs.Common.{◌≡◌, ◌<◌, length, take}
-use Rattle.rules.specs.Ends.{end_minutes}
-use Rattle.rules.specs.GrowingCuts.{MarksBefore}
-use Rattle.rules.specs.NotFirst.{greatest_end_bound}
+use Rattle.rules.specs.Private.Ends.{end_minutes}
+use Rattle.rules.specs.Private.GrowingCuts.{MarksBefore}
+use Rattle.rules.specs.Private.EndBounds.{greatest_end_bound}
 use Rattle.rules.proofs.GrowingCuts.{end_at}
 use Rattle.rules.proofs.not_first.Candidate.bound.Given as goal
 

@@ -2,7 +2,7 @@ use Rattle.std.proofs.Common.{◌≡◌, take}
 use Rattle.lots.specs.Tables.{lot_at}
 use Rattle.elastic.specs.Profile.{has}
 use Rattle.rules.specs.Chosen.{chosen}
-use Rattle.rules.specs.Ends.{ends_of}
+use Rattle.rules.specs.Overload.{ends_of}
 use Rattle.rules.specs.NotFirst.{in_cut}
 use Rattle.rules.proofs.GrowingCuts.{Growing}
 use Rattle.rules.proofs.not_first.Candidate.grow.Given as goal

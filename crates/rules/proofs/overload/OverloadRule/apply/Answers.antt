@@ -1,5 +1,5 @@
 use Rattle.std.proofs.Common.{true, false, refl}
-use Rattle.rules.specs.Laws.OverloadSound.{overload_by_ends}
+use Rattle.rules.proofs.OverloadEnds.{overload_by_ends}
 use Rattle.rules.proofs.overload.OverloadRule.apply.Goals as goal
 
 pub returns-then-some_overfull : goal.returns-then-some_overfull

@@ -3,7 +3,7 @@ use Rattle.std.proofs.iter.Serving.{serving}
 use Rattle.std.proofs.iter.runs.Sources.{ranges}
 use Rattle.lots.specs.Limits.{horizon}
 use Rattle.lots.specs.Tables.{ect}
-use Rattle.rules.specs.TimeTable.{blocked_under}
+use Rattle.rules.specs.Private.Loads.{blocked_under}
 use Rattle.rules.proofs.Loads.{load_few, IsLastBelow, after_last_found}
 use Rattle.rules.proofs.time_table.Loads.bound.Goals as goal
 

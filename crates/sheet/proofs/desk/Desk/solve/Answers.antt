@@ -1,5 +1,5 @@
 use Rattle.std.proofs.Common.{◌∙◌, refl, ap, replicate}
-use Rattle.sheet.specs.Pages.{bytes_of}
+use Rattle.sheet.specs.Private.Pages.{bytes_of}
 use Rattle.tree.specs.Answer.{max_trail}
 use Rattle.sheet.specs.Runs.{Desk}
 use Rattle.sheet.proofs.Steps.{solve_room, solve_refused}

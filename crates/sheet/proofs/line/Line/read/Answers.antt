@@ -1,5 +1,5 @@
 use Rattle.std.proofs.Common.{ℕ, List, rules}
-use Rattle.sheet.specs.Words.{BeginsWithNumbers}
+use Rattle.sheet.specs.Private.Words.{BeginsWithNumbers}
 use Rattle.sheet.proofs.Letters.{no_machine, no_machine_of_many, no_lot, no_narrow}
 use Rattle.sheet.proofs.line.Line.read.Goals as goal
 

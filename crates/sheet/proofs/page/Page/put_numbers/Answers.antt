@@ -1,7 +1,7 @@
 use Rattle.std.proofs.Common.{◌≡◌, ℕ, ◌+◌, ◌<◌, List, [], ◌++◌, length, codes, decimal, get_or, drop, sym, refl, subst, drop-cons, add-one, arith}
 use Rattle.std.proofs.lemmas.List.{drop_all}
 use Rattle.lots.specs.Texts.{numbers}
-use Rattle.sheet.specs.Pages.{Adds, HasRoom}
+use Rattle.sheet.specs.Private.Pages.{Adds, HasRoom}
 use Rattle.sheet.specs.declared.page.Page.{Page}
 use Rattle.sheet.proofs.Pages.{adds_nothing, adds_then, room_after, room_between, room_front}
 use Rattle.sheet.proofs.page.Page.put_numbers.Goals as goal

@@ -1,6 +1,6 @@
 use Rattle.std.proofs.Common.{◌≡◌, drop}
 use Rattle.lots.specs.Texts.{numbers}
-use Rattle.sheet.specs.Pages.{Adds, HasRoom}
+use Rattle.sheet.specs.Private.Pages.{Adds, HasRoom}
 use Rattle.sheet.specs.declared.page.Page.{Page}
 use Rattle.sheet.proofs.page.Page.put_numbers.Given as goal
 

@@ -1,7 +1,7 @@
 use Rattle.std.proofs.Common.{◌≡◌, ℕ, List, ◌∷◌, refl, rules}
 use Rattle.sheet.specs.Lines.{newline}
-use Rattle.sheet.specs.Said.{said}
-use Rattle.sheet.specs.Words.{BeginsBy}
+use Rattle.sheet.specs.Private.Said.{said}
+use Rattle.sheet.specs.Private.Words.{BeginsBy}
 use Rattle.sheet.proofs.Letters.{not_ended}
 use Rattle.sheet.proofs.reader.Reader.line.Goals as goal
 

@@ -1,6 +1,6 @@
 use Rattle.std.proofs.Common.{ℕ, ◌<◌, ◌≤◌, List, arith, rules}
 use Rattle.sheet.specs.Lines.{max_number}
-use Rattle.sheet.specs.Words.{BeginsWithNumber}
+use Rattle.sheet.specs.Private.Words.{BeginsWithNumber}
 use Rattle.sheet.proofs.Reading.{no_more_numbers, too_great}
 use Rattle.sheet.proofs.reader.Reader.numbers.Goals as goal
 

@@ -1,5 +1,5 @@
 use Rattle.std.proofs.Common.{◌≡◌, length, take}
-use Rattle.sheet.specs.Words.{BeginsWithNumbers}
+use Rattle.sheet.specs.Private.Words.{BeginsWithNumbers}
 use Rattle.sheet.proofs.reader.Reader.numbers.Given as goal
 
 abbrev pub invariant-loop-slot : goal.invariant-loop-slot

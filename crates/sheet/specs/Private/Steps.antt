@@ -6,8 +6,8 @@ use Rattle.lots.specs.Tables.{Table}
 use Rattle.sheet.specs.Lines.{Line, Bounded}
 use Rattle.sheet.specs.PrintLines.{refusal_print}
 use Rattle.sheet.specs.Runs.{Desk, Due, BeginsWithDueLine, Full, Runs, Refuses, after, Prints}
-use Rattle.sheet.specs.Desks.{Orderly, RoomFor}
-use Rattle.sheet.specs.Pages.{Adds}
+use Rattle.sheet.specs.Private.Desks.{Orderly, RoomFor}
+use Rattle.sheet.specs.Private.Pages.{Adds}
 use Rattle.sheet.specs.declared.page.Page.{Page}
 
 -- the line can be run at the desk D, and the page has room for what it prints

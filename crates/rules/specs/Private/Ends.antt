@@ -6,10 +6,8 @@ use Rattle.lots.specs.Tables.{lot_at}
 use Rattle.lots.specs.declared.Lot.{Lot}
 use Rattle.elastic.specs.Profile.{has}
 use Rattle.row.specs.Rows.{Ascending}
+use Rattle.rules.specs.Overload.{ends_of}
 use Rattle.rules.specs.declared.ends.End.{End}
-
-abbrev pub ends_of : List Lot → List ℕ
-ends_of T = map (λ x. x.lct) T
 
 abbrev pub end_minutes : List End → List ℕ
 end_minutes es = map (λ x. x.lct) es

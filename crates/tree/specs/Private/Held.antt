@@ -5,7 +5,7 @@ use Rattle.lots.specs.Tables.{lot_at}
 use Rattle.lots.specs.declared.Lot.{Lot}
 use Rattle.rule.specs.Meanings.{Meaning, to}
 use Rattle.tree.specs.Tree.{BestKnown, unknown, known, Leaves, earliest_starts, HasChoice, Branch, Closes, Visit}
-use Rattle.tree.specs.Stack.{tables, Stopped}
+use Rattle.tree.specs.Private.Stack.{tables, Stopped}
 use Rattle.tree.specs.declared.node.Known.{Known}
 use Rattle.tree.specs.declared.node.Fate.{Fate}
 use Rattle.tree.specs.declared.node.Fate.TheVariants.{Closed, Found, Fork}

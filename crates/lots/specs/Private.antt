@@ -1,0 +1,2 @@
+-- What only contracts of private code speak of. No promise needs it to be read.
+pub mod Reading
