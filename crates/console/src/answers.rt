@@ -1,4 +1,4 @@
-// What a line is answered, and why a call comes to no answer of its own.
+//! What a line is answered, and why a call comes to no answer of its own.
 ghost use Rattle.std.specs.Prelude.{◌≡◌, Some};
 ghost use Rattle.std.specs.Fmt.{WritesOnOk};
 ghost use Rattle.lots.specs.Texts.{numbers as written_numbers};
@@ -11,7 +11,7 @@ use std::alloc::{AllocError, AllocFailed};
 use std::fmt;
 use tree::Search;
 
-// The answer to a line. It is shown as the line that the program writes.
+/// The answer to a line. It is shown as the line that the program writes.
 #[derive(Drop)]
 pub enum Answer {
     Overflow { left: u32, points: usize },
@@ -38,7 +38,8 @@ fn write_cells<W: fmt::Write>(lots: &[Lot], f: &mut fmt::Formatter<W>) -> fmt::R
 
 // Writes each number after a space.
 fn write_numbers<W: fmt::Write>(numbers: &[u16], f: &mut fmt::Formatter<W>) -> fmt::Result
-    ensures answer { WritesOnOk W.Write.write_str_gives f.old result (written_numbers numbers.now) f.new }
+    ensures answer { WritesOnOk W.Write.write_str_gives f.old result (written_numbers numbers.now)
+        f.new }
 {
     for number in numbers {
         write!(f, " {number}")?;
@@ -52,7 +53,8 @@ fn write_search<W: fmt::Write>(
     starts: &[u16],
     f: &mut fmt::Formatter<W>,
 ) -> fmt::Result
-    ensures answer { WritesOnOk W.Write.write_str_gives f.old result (shown_search search starts.now) f.new }
+    ensures answer { WritesOnOk W.Write.write_str_gives f.old result
+        (shown_search search starts.now) f.new }
 {
     match search {
         Search::Best { end, nodes } => {
@@ -91,8 +93,9 @@ impl fmt::Display for Answer {
     }
 }
 
-// Why a call comes to no answer of its own: the line does not write it, it refuses, or there is no memory for it.
-// Apart from `Answer`, which has no case for want of memory, so that `?` can carry it.
+/// Why a call comes to no answer of its own: the line does not write it, it refuses, or there is no
+/// memory for it. Apart from `Answer`, which has no case for want of memory, so that `?` can carry
+/// it.
 #[derive(Clone, Copy)]
 pub enum Fault {
     Unknown,

@@ -1,4 +1,4 @@
-// Answers a line: reads the call that it writes, makes the call, and says what came of it.
+//! Answers a line: reads the call that it writes, makes the call, and says what came of it.
 ghost use Rattle.std.specs.Prelude.{◌≡◌, IfOk, IfErr, MatchResult};
 ghost use Rattle.lots.specs.Texts.{space};
 ghost use Rattle.lots.specs.Tables.{Table};
@@ -16,7 +16,7 @@ use rule::Rule;
 use std::alloc::{AllocError, Global};
 use std::str::from_utf8;
 
-// The answer to the line, or nothing where the line is empty or a comment.
+/// The answer to the line, or nothing where the line is empty or a comment.
 pub fn answer(heap: Global, plan: &mut Plan, line: &[u8]) -> Result<Option<Answer>, AllocError>
     ensures answer { IfOk result (Answered line.now plan.old plan.new) }
     ensures kept { IfErr result (λ _. plan.new ≡ plan.old) }
@@ -32,9 +32,11 @@ pub fn answer(heap: Global, plan: &mut Plan, line: &[u8]) -> Result<Option<Answe
     }
 }
 
-// Makes the call that the first word names. Arms, since the calls differ in what they read and answer.
+// Makes the call that the first word names. Arms, since the calls differ in what they read and
+// answer.
 fn call(heap: Global, plan: &mut Plan, line: &[u8]) -> Result<Answer, Fault>
-    ensures answer { Comes (Made (pieces space line.now)) (Known (pieces space line.now) → ⊥) plan.old plan.new result }
+    ensures answer { Comes (Made (pieces space line.now)) (Known (pieces space line.now) → ⊥)
+        plan.old plan.new result }
 {
     let text = from_utf8(line).map_err(|_| Fault::Unknown)?;
     let mut words = Parts::cut(text, ' ');
@@ -53,7 +55,9 @@ fn call(heap: Global, plan: &mut Plan, line: &[u8]) -> Result<Answer, Fault>
 
 // `overflow C CELL..`
 fn overflow(heap: Global, words: Parts<'_>) -> Result<Answer, Fault>
-    ensures answer { (P : Table) → Comes (Answers overflow_call words.entry) (Asks overflow_call words.entry → ⊥) P P result }
+    ensures answer { (P : Table)
+        → Comes (Answers overflow_call words.entry) (Asks overflow_call words.entry → ⊥) P P
+        result }
 {
     let (capacity, lots) = table(heap, words)?;
     let (left, points) = elastic::overflow(capacity, lots.as_slice())?;
@@ -62,7 +66,8 @@ fn overflow(heap: Global, words: Parts<'_>) -> Result<Answer, Fault>
 
 // `rule PILE C CELL..`
 fn rule(heap: Global, mut words: Parts<'_>) -> Result<Answer, Fault>
-    ensures answer { (P : Table) → Comes (Answers rule_call words.entry) (Asks rule_call words.entry → ⊥) P P result }
+    ensures answer { (P : Table)
+        → Comes (Answers rule_call words.entry) (Asks rule_call words.entry → ⊥) P P result }
 {
     let pile = Pile::read(heap, words.next().ok_or(Fault::Unknown)?)?;
     let (capacity, mut lots) = table(heap, words)?;
@@ -72,7 +77,8 @@ fn rule(heap: Global, mut words: Parts<'_>) -> Result<Answer, Fault>
 
 // `open C`
 fn open(plan: &mut Plan, words: Parts<'_>) -> Result<Answer, Fault>
-    ensures answer { Comes (Answers open_call words.entry) (Asks open_call words.entry → ⊥) plan.old plan.new result }
+    ensures answer { Comes (Answers open_call words.entry) (Asks open_call words.entry → ⊥) plan.old
+        plan.new result }
 {
     let [capacity] = numbers::<1>(words).ok_or(Fault::Unknown)?;
     plan.open(capacity)?;
@@ -81,7 +87,8 @@ fn open(plan: &mut Plan, words: Parts<'_>) -> Result<Answer, Fault>
 
 // `admit EST LCT P C`
 fn admit(plan: &mut Plan, words: Parts<'_>) -> Result<Answer, Fault>
-    ensures answer { Comes (Answers admit_call words.entry) (Asks admit_call words.entry → ⊥) plan.old plan.new result }
+    ensures answer { Comes (Answers admit_call words.entry) (Asks admit_call words.entry → ⊥)
+        plan.old plan.new result }
 {
     let lot = lot(words).ok_or(Fault::Unknown)?;
     let number = plan.admit(lot)?;
@@ -90,7 +97,8 @@ fn admit(plan: &mut Plan, words: Parts<'_>) -> Result<Answer, Fault>
 
 // `narrow LOT FROM TO`
 fn narrow(plan: &mut Plan, words: Parts<'_>) -> Result<Answer, Fault>
-    ensures answer { Comes (Answers narrow_call words.entry) (Asks narrow_call words.entry → ⊥) plan.old plan.new result }
+    ensures answer { Comes (Answers narrow_call words.entry) (Asks narrow_call words.entry → ⊥)
+        plan.old plan.new result }
 {
     let [lot, from, to] = numbers::<3>(words).ok_or(Fault::Unknown)?;
     plan.narrow(lot as usize, from, to)?;
@@ -99,7 +107,8 @@ fn narrow(plan: &mut Plan, words: Parts<'_>) -> Result<Answer, Fault>
 
 // `tighten PILE`
 fn tighten(heap: Global, plan: &mut Plan, mut words: Parts<'_>) -> Result<Answer, Fault>
-    ensures answer { Comes (Answers tighten_call words.entry) (Asks tighten_call words.entry → ⊥) plan.old plan.new result }
+    ensures answer { Comes (Answers tighten_call words.entry) (Asks tighten_call words.entry → ⊥)
+        plan.old plan.new result }
 {
     let pile = Pile::read(heap, words.next().ok_or(Fault::Unknown)?)?;
     if words.next().is_some() {
@@ -123,7 +132,9 @@ struct Asked {
 
 // The words `PILE BUDGET TRAIL STARTS`.
 fn search_words(heap: Global, mut words: Parts<'_>) -> Result<Asked, Fault>
-    ensures answer { MatchResult result (λ s. SolveForm words.entry s.pile s.budget s.cells s.places) (λ f. Unread f (Asks solve_call words.entry → ⊥)) }
+    ensures answer { MatchResult result
+        (λ s. SolveForm words.entry s.pile s.budget s.cells s.places)
+        (λ f. Unread f (Asks solve_call words.entry → ⊥)) }
 {
     let pile = Pile::read(heap, words.next().ok_or(Fault::Unknown)?)?;
     let budget = words.next().and_then(budget).ok_or(Fault::Unknown)?;
@@ -138,7 +149,8 @@ fn search_words(heap: Global, mut words: Parts<'_>) -> Result<Asked, Fault>
 
 // `solve PILE BUDGET TRAIL STARTS`
 fn solve(heap: Global, plan: &Plan, words: Parts<'_>) -> Result<Answer, Fault>
-    ensures answer { Comes (Answers solve_call words.entry) (Asks solve_call words.entry → ⊥) plan.now plan.now result }
+    ensures answer { Comes (Answers solve_call words.entry) (Asks solve_call words.entry → ⊥)
+        plan.now plan.now result }
 {
     let Asked {
         pile,
@@ -155,7 +167,8 @@ fn solve(heap: Global, plan: &Plan, words: Parts<'_>) -> Result<Answer, Fault>
 
 // `windows`
 fn windows(heap: Global, plan: &Plan, mut words: Parts<'_>) -> Result<Answer, Fault>
-    ensures answer { Comes (Answers windows_call words.entry) (Asks windows_call words.entry → ⊥) plan.now plan.now result }
+    ensures answer { Comes (Answers windows_call words.entry) (Asks windows_call words.entry → ⊥)
+        plan.now plan.now result }
 {
     if words.next().is_some() {
         return Err(Fault::Unknown);

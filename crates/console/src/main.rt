@@ -1,4 +1,4 @@
-// Reads calls from standard input, one a line, and answers each with one line on standard output.
+//! Reads calls from standard input, one a line, and answers each with one line on standard output.
 #![tactic(auto)]
 
 use calls::answer;

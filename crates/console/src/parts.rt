@@ -1,4 +1,5 @@
-// A text that is cut at a mark, and read part by part: the words of a line, or the numbers of a cell.
+//! A text that is cut at a mark, and read part by part: the words of a line, or the numbers of a
+//! cell.
 ghost use Rattle.std.specs.Prelude.{◌≡◌, IsTrue};
 ghost use Rattle.std.specs.Char.{is_ascii};
 ghost use Rattle.std.specs.Iterator.{YieldsFirstRef, item_count};
@@ -7,7 +8,7 @@ ghost use Rattle.console.specs.Syntax.{pieces};
 use std::marker::Model;
 use std::str::Split;
 
-// The parts that are still to be read.
+/// The parts that are still to be read.
 #[derive(Drop)]
 pub struct Parts<'a> {
     left: Split<'a, char>,
@@ -27,7 +28,7 @@ impl<'a> Model for Parts<'a> {
 }
 
 impl<'a> Parts<'a> {
-    // The parts between the marks of a text. A mark is an ASCII character, which is one byte.
+    /// The parts between the marks of a text. A mark is an ASCII character, which is one byte.
     pub fn cut(text: &'a str, mark: char) -> Parts<'a>
         requires ascii { IsTrue (is_ascii mark) }
         ensures answer { result ≡ pieces mark text.now }

@@ -1,4 +1,4 @@
-// The piles that a word can name.
+//! The piles that a word can name.
 ghost use Rattle.std.specs.Prelude.{◌≡◌, ℕ, List, ◌++◌, MatchOption, MatchResult};
 ghost use Rattle.console.specs.Piles.{pile_meaning, Names};
 ghost use Rattle.console.specs.Private.Front.{Lacks, BeginsWithPile};
@@ -26,9 +26,10 @@ pub enum Pile {
 }
 
 impl Pile {
-    // The pile that the word names. No `FromStr`, since a pile within another needs memory.
+    /// The pile that the word names. No `FromStr`, since a pile within another needs memory.
     pub fn read(heap: Global, word: &str) -> Result<Pile, Fault>
-        ensures answer { MatchResult result (Names word.now) (λ f. Unread f ((p : Pile) → Names word.now p → ⊥)) }
+        ensures answer { MatchResult result (Names word.now)
+            (λ f. Unread f ((p : Pile) → Names word.now p → ⊥)) }
     {
         let (pile, rest) = front(heap, MAX_LEVELS, word)?;
         if !rest.is_empty() {
@@ -40,7 +41,8 @@ impl Pile {
 
 // The pile whose word the text begins with, and the rest of the text.
 fn front<'a>(heap: Global, levels: u16, text: &'a str) -> Result<(Pile, &'a str), Fault>
-    ensures answer { MatchResult result (λ r. BeginsWithPile text.now levels r.0 r.1.now) (λ f. Unread f ((p : Pile) (x : List ℕ) → BeginsWithPile text.now levels p x → ⊥)) }
+    ensures answer { MatchResult result (λ r. BeginsWithPile text.now levels r.0 r.1.now)
+        (λ f. Unread f ((p : Pile) (x : List ℕ) → BeginsWithPile text.now levels p x → ⊥)) }
 {
     if levels == 0 {
         return Err(Fault::Unknown);
@@ -63,14 +65,17 @@ fn front<'a>(heap: Global, levels: u16, text: &'a str) -> Result<(Pile, &'a str)
 
 // The rest of a text that begins with the mark.
 fn past<'a>(mark: &str, text: &'a str) -> Result<&'a str, Fault>
-    ensures answer { MatchResult result (λ rest. text.now ≡ mark.now ++ rest.now) (λ f. Unread f (Lacks text.now mark.now)) }
+    ensures answer { MatchResult result (λ rest. text.now ≡ mark.now ++ rest.now)
+        (λ f. Unread f (Lacks text.now mark.now)) }
 {
     text.strip_prefix(mark).ok_or(Fault::Unknown)
 }
 
 // The same of a pile that stands alone. No name begins another, so the order does not matter.
 fn plain<'a>(text: &'a str) -> Option<(Pile, &'a str)>
-    ensures answer { MatchOption result ((p : Pile) (x : List ℕ) → BeginsWithPile text.now 1 p x → ⊥) (λ r. BeginsWithPile text.now 1 r.0 r.1.now) }
+    ensures answer { MatchOption result
+        ((p : Pile) (x : List ℕ) → BeginsWithPile text.now 1 p x → ⊥)
+        (λ r. BeginsWithPile text.now 1 r.0 r.1.now) }
 {
     if let Some(rest) = text.strip_prefix("idle") {
         Some((Pile::Idle, rest))

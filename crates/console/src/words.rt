@@ -1,4 +1,4 @@
-// Reads the words of a line: numbers and cells.
+//! Reads the words of a line: numbers and cells.
 ghost use Rattle.std.specs.Prelude.{◌≡◌, ℕ, List, length, MatchResult};
 ghost use Rattle.std.specs.List.{AllZip};
 ghost use Rattle.lots.specs.Private.Reading.{Reads};
@@ -11,9 +11,10 @@ use crate::parts::Parts;
 use lots::Lot;
 use std::alloc::Global;
 
-// No `FromStr` here: that of `u16` takes a plus sign, `Lot` is of another crate, and a type around each would be taken off at once.
+// No `FromStr` here: that of `u16` takes a plus sign, `Lot` is of another crate, and a type around
+// each would be taken off at once.
 
-// The number of 32 bits that the word writes in decimal digits alone, where it fits.
+/// The number of 32 bits that the word writes in decimal digits alone, where it fits.
 pub fn budget(word: &str) -> Option<u32>
     ensures answer { Reads (Budget word.now) result }
 {
@@ -31,7 +32,7 @@ fn number(word: &str) -> Option<u16>
     u16::try_from(budget(word)?).ok()
 }
 
-// The numbers that the parts write, where there are just `N` of them.
+/// The numbers that the parts write, where there are just `N` of them.
 pub fn numbers<const N: usize>(mut parts: Parts<'_>) -> Option<[u16; N]>
     ensures answer { Reads (λ ns. (length ns ≡ N) × AllZip Number parts.entry ns) result }
 {
@@ -45,7 +46,7 @@ pub fn numbers<const N: usize>(mut parts: Parts<'_>) -> Option<[u16; N]>
     }
 }
 
-// The lot whose four numbers the parts write.
+/// The lot whose four numbers the parts write.
 pub fn lot(parts: Parts<'_>) -> Option<Lot>
     ensures answer { Reads (λ x. AllZip Number parts.entry (lot_numbers x)) result }
 {
@@ -62,7 +63,8 @@ fn cell(word: &str) -> Option<Lot>
 
 // The lots of the cells that the words left write.
 fn cells(heap: Global, words: Parts<'_>) -> Result<Vec<Lot>, Fault>
-    ensures answer { MatchResult result (λ lots. AllZip Cell words.entry lots.items) (λ f. Unread f ((T : List Lot) → AllZip Cell words.entry T → ⊥)) }
+    ensures answer { MatchResult result (λ lots. AllZip Cell words.entry lots.items)
+        (λ f. Unread f ((T : List Lot) → AllZip Cell words.entry T → ⊥)) }
 {
     let mut lots = Vec::new(heap);
     // A loop: a chain that collects does not promise to fail where a cell is wrong.
@@ -73,9 +75,11 @@ fn cells(heap: Global, words: Parts<'_>) -> Result<Vec<Lot>, Fault>
     Ok(lots)
 }
 
-// The capacity and the lots of the table that the words left write, as `C CELL..`: a pair, which callers take apart at once.
+/// The capacity and the lots of the table that the words left write, as `C CELL..`: a pair, which
+/// callers take apart at once.
 pub fn table(heap: Global, mut words: Parts<'_>) -> Result<(u16, Vec<Lot>), Fault>
-    ensures answer { MatchResult result (λ t. TableForm words.entry t.0 t.1.items) (λ f. Unread f ((C : ℕ) (T : List Lot) → TableForm words.entry C T → ⊥)) }
+    ensures answer { MatchResult result (λ t. TableForm words.entry t.0 t.1.items)
+        (λ f. Unread f ((C : ℕ) (T : List Lot) → TableForm words.entry C T → ⊥)) }
 {
     let capacity = words.next().and_then(number).ok_or(Fault::Unknown)?;
     let lots = cells(heap, words)?;

@@ -1,4 +1,4 @@
-// The elastic profile of a list of lots, and how much of its work overflows the windows.
+//! The elastic profile of a list of lots, and how much of its work overflows the windows.
 #![tactic(auto)]
 
 ghost use Rattle.std.specs.Prelude.{Ok};
@@ -10,16 +10,19 @@ mod profile;
 
 pub use profile::Profile;
 
-// The work that is left over at the latest lct of a table, and the number of points of its profile: a pair, which callers take apart.
+/// The work that is left over at the latest lct of a table, and the number of points of its
+/// profile: a pair, which callers take apart.
 pub fn overflow_of(table: Table<'_>) -> (u32, usize)
     ensures answer { OverflowAnswered table.entry.capacity table.entry.lots.now (Ok result) }
     ensures points { FewPoints table.entry.lots.now (Ok result) }
-    ensures none_if_schedulable { NoneIfSchedulable table.entry.capacity table.entry.lots.now (Ok result) }
+    ensures none_if_schedulable { NoneIfSchedulable table.entry.capacity table.entry.lots.now
+        (Ok result) }
 {
     Profile::of(table).overflow()
 }
 
-// The overflow and the number of points of any lots and capacity, apart, since it refuses those that are no lawful table.
+/// The overflow and the number of points of any lots and capacity, apart, since it refuses those
+/// that are no lawful table.
 pub fn overflow(capacity: u16, lots: &[Lot]) -> Result<(u32, usize), Refusal>
     ensures answer { OverflowAnswered capacity lots.now result }
     ensures points { FewPoints lots.now result }

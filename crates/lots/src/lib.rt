@@ -1,4 +1,4 @@
-// Lots, the law of their tables, and the numbers by which calls refuse.
+//! Lots, the law of their tables, and the numbers by which calls refuse.
 #![tactic(auto)]
 
 ghost use Rattle.std.specs.Prelude.{◌≡◌, ◌+◌, ◌≤◌, ◌↔◌, IsTrue};
@@ -9,14 +9,14 @@ mod table;
 
 pub use table::Table;
 
-// The last minute of the week, at which every lot is out.
+/// The last minute of the week, at which every lot is out.
 pub const HORIZON: u16 = 10_080;
-// The most trays that a machine may have.
+/// The most trays that a machine may have.
 pub const MAX_CAPACITY: u16 = 200;
-// The most lots that a table may have.
+/// The most lots that a table may have.
 pub const MAX_LOTS: usize = 64;
 
-// One lot of goods: it may go in at `est`, must be out by `lct`, runs for `p` minutes on `c` trays.
+/// One lot of goods: it may go in at `est`, must be out by `lct`, runs for `p` minutes on `c` trays.
 #[derive(Clone, Copy, PartialEq, Eq, Default, Debug)]
 pub struct Lot {
     pub est: u16,
@@ -32,28 +32,28 @@ impl Lot {
         Lot { est, lct, p, c }
     }
 
-    // The earliest minute at which the lot can be out.
+    /// The earliest minute at which the lot can be out.
     pub fn ect(&self) -> u32
         ensures answer { result ≡ earliest_end self.now }
     {
         u32::from(self.est) + u32::from(self.p)
     }
 
-    // The latest minute at which the lot can go in, and 0 where it never can.
+    /// The latest minute at which the lot can go in, and 0 where it never can.
     pub fn lst(&self) -> u16
         ensures answer { result ≡ latest_start self.now }
     {
         self.lct.saturating_sub(self.p)
     }
 
-    // Whether the run fits the window.
+    /// Whether the run fits the window.
     pub fn fits(&self) -> bool
         ensures answer { IsTrue result ↔ (earliest_end self.now ≤ self.now.lct) }
     {
         self.ect() <= u32::from(self.lct)
     }
 
-    // Whether the lot is lawful in a table of this capacity.
+    /// Whether the lot is lawful in a table of this capacity.
     pub fn is_lawful(&self, capacity: u16) -> bool
         ensures answer { IsTrue result ↔ LawfulLot capacity self.now }
     {
@@ -61,7 +61,8 @@ impl Lot {
     }
 }
 
-// Whether capacity and lots are a lawful table. They come apart, since only what is lawful is a `Table`.
+/// Whether capacity and lots are a lawful table. They come apart, since only what is lawful is a
+/// `Table`.
 pub fn is_lawful(capacity: u16, lots: &[Lot]) -> bool
     ensures answer { IsTrue result ↔ Lawful capacity lots.now }
 {
@@ -77,7 +78,7 @@ pub fn is_lawful(capacity: u16, lots: &[Lot]) -> bool
     true
 }
 
-// Why a call refuses. The numbers are part of every format that names a refusal.
+/// Why a call refuses. The numbers are part of every format that names a refusal.
 #[derive(Clone, Copy, PartialEq, Eq, Debug)]
 pub enum Refusal {
     Capacity = 1,

@@ -1,5 +1,5 @@
-// The calls on a plan. A refused call alters nothing. Each says apart what it answers and that it follows the book,
-// since the two are read by different readers.
+//! The calls on a plan. A refused call alters nothing. Each says apart what it answers and that it
+//! follows the book, since the two are read by different readers.
 ghost use Rattle.std.specs.Prelude.{◌≡◌, ◌-◌, ◌*◌, ◌≤◌, List, [], IfOk};
 ghost use Rattle.plan.specs.Tables.{empty};
 ghost use Rattle.plan.specs.Calls.{Opened, Admitted, Narrowed, Tightened};
@@ -17,7 +17,7 @@ use rule::{Rule, Verdict, settle};
 use tree::Search;
 
 impl Plan {
-    // No lots, and a capacity of 1.
+    /// No lots, and a capacity of 1.
     pub fn new() -> Plan
         ensures exact { result ≡ empty 1 }
         ensures begins { History [] result }
@@ -28,7 +28,7 @@ impl Plan {
         }
     }
 
-    // Empties the plan and sets its capacity.
+    /// Empties the plan and sets its capacity.
     pub fn open(&mut self, capacity: u16) -> Result<(), Refusal>
         ensures exact { Opened capacity self.old self.new result }
         ensures follows { Follows (noted (opening capacity) result) self.old self.new }
@@ -42,7 +42,7 @@ impl Plan {
         Ok(())
     }
 
-    // Adds the lot and answers its number.
+    /// Adds the lot and answers its number.
     pub fn admit(&mut self, lot: Lot) -> Result<usize, Refusal>
         ensures exact { Admitted lot self.old self.new result }
         ensures follows { Follows (noted (admitting lot) result) self.old self.new }
@@ -53,7 +53,8 @@ impl Plan {
         Ok(number)
     }
 
-    // Has the lot of this number go in at `from` or later and be out by `to`, where these are tighter.
+    /// Has the lot of this number go in at `from` or later and be out by `to`, where these are
+    /// tighter.
     pub fn narrow(&mut self, lot: usize, from: u16, to: u16) -> Result<(), Refusal>
         ensures exact { Narrowed lot from to self.old self.new result }
         ensures follows { Follows (noted (narrowing lot from to) result) self.old self.new }
@@ -64,7 +65,8 @@ impl Plan {
         Ok(())
     }
 
-    // Applies the rule until it is still or dead, and counts the applications. Dead puts back the windows from before.
+    /// Applies the rule until it is still or dead, and counts the applications. Dead puts back the
+    /// windows from before.
     pub fn tighten<R: Rule>(&mut self, rule: &R) -> (Verdict, u32)
         ensures exact { Tightened (R.meaning rule.now) self.old self.new result.0 result.1 }
         ensures follows { Follows (accepted (tightening (R.meaning rule.now))) self.old self.new }
@@ -73,7 +75,8 @@ impl Plan {
         settle(rule, self.capacity, self.lots.as_mut_slice()).unwrap()
     }
 
-    // Finds a best schedule in at most so many nodes, with a lent trail for those that are unvisited, and writes its starts.
+    /// Finds a best schedule in at most so many nodes, with a lent trail for those that are
+    /// unvisited, and writes its starts.
     pub fn solve<R: Rule>(
         &self,
         rule: &R,
@@ -81,10 +84,15 @@ impl Plan {
         trail: &mut [Lot],
         starts: &mut [u16],
     ) -> Result<Search, Refusal>
-        ensures exact { Solved (R.meaning rule.now) self.now.capacity self.now.lots budget trail.old trail.new starts.old starts.new result }
-        ensures follows { Follows (noted (solving (R.meaning rule.now) budget trail.old starts.old) result) self.now self.now }
+        ensures exact { Solved (R.meaning rule.now) self.now.capacity self.now.lots budget trail.old
+            trail.new starts.old starts.new result }
+        ensures follows { Follows
+            (noted (solving (R.meaning rule.now) budget trail.old starts.old) result) self.now
+            self.now }
         ensures short { IfOk result (λ a. nodes_of a ≤ 2 * ways self.now.lots - 1) }
-        ensures promised { IfOk result (λ a. (es : List Entry) → History es self.now → SearchAnswersTo (R.meaning rule.now) (book es) self.now budget starts.new a) }
+        ensures promised { IfOk result
+            (λ a. (es : List Entry) → History es self.now
+            → SearchAnswersTo (R.meaning rule.now) (book es) self.now budget starts.new a) }
     {
         // The table of a plan is lawful.
         let table = Table::new(self.capacity, self.lots.as_slice()).unwrap();

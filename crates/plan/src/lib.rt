@@ -1,4 +1,4 @@
-// A plan: the table of a machine's lots, which its calls alter in place and keep lawful.
+//! A plan: the table of a machine's lots, which its calls alter in place and keep lawful.
 #![tactic(auto)]
 
 use arrayvec::ArrayVec;

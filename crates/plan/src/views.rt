@@ -1,4 +1,4 @@
-// What a plan shows of itself.
+//! What a plan shows of itself.
 ghost use Rattle.std.specs.Prelude.{◌≡◌};
 ghost use Rattle.lots.specs.Tables.{Lawful};
 
@@ -12,7 +12,7 @@ impl Plan {
         self.capacity
     }
 
-    // The lots by number, with the windows that the plan has left them.
+    /// The lots by number, with the windows that the plan has left them.
     pub fn lots(&self) -> &[Lot]
         ensures exact { result.now ≡ self.now.lots }
         ensures lawful { Lawful self.now.capacity self.now.lots }

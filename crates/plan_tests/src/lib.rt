@@ -1,4 +1,4 @@
-// Plans under the rules of the house: what the worked tables do not show.
+//! Plans under the rules of the house: what the worked tables do not show.
 #![tactic(auto)]
 
 #[cfg(test)]
@@ -20,7 +20,8 @@ mod tests {
         Ok(plan)
     }
 
-    // A lot that fills the machine from 4 to 6, one that has to run before it, and one that then has to run after it.
+    // A lot that fills the machine from 4 to 6, one that has to run before it, and one that then
+    // has to run after it.
     fn crowded() -> [Lot; 3] {
         [
             Lot::new(4, 6, 2, 2),
@@ -56,7 +57,8 @@ mod tests {
         Ok(())
     }
 
-    // The first application moves the second lot to 2, and the next finds both fixed at that minute.
+    // The first application moves the second lot to 2, and the next finds both fixed at that
+    // minute.
     #[test]
     fn dead_puts_the_windows_back(rt: HostRuntime) -> Result<(), Fail> {
         let lots = [Lot::new(0, 4, 3, 1), Lot::new(0, 4, 2, 1)];

@@ -1,4 +1,4 @@
-// Rows of elements in the strict order of their keys, over lent cells or in an array of their own.
+//! Rows of elements in the strict order of their keys, over lent cells or in an array of their own.
 #![tactic(auto)]
 
 mod array_row;

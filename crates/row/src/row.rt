@@ -1,22 +1,22 @@
-// A row of elements in lent cells, kept in the strict order of their keys.
+//! A row of elements in lent cells, kept in the strict order of their keys.
 ghost use Rattle.std.specs.Prelude.{◌≡◌, ◌+◌, ◌<◌, ◌≤◌, min, ◌++◌, length, take, drop, MatchResult};
 ghost use Rattle.std.specs.List.{insert};
 ghost use Rattle.std.specs.Cmp.{IsTotalOrder};
 ghost use Rattle.row.specs.Rows.{cells_of, row_of, Ascending, Stored, Seated};
 ghost use Rattle.row.specs.Private.Search.{Sought};
 
-// Where an element came to stand. Three answers, of which none is an error, and so no `Result`.
+/// Where an element came to stand. Three answers, of which none is an error, and so no `Result`.
 #[derive(Clone, Copy, PartialEq, Eq, Debug)]
 pub enum Place {
-    // It was put at this place.
+    /// It was put at this place.
     Placed(usize),
-    // Its key stood at this place already.
+    /// Its key stood at this place already.
     Present(usize),
-    // Its key is not there, and no cell is free.
+    /// Its key is not there, and no cell is free.
     Full,
 }
 
-// An element that a row keeps by its key.
+/// An element that a row keeps by its key.
 pub trait Keyed {
     type Key: Ord + Drop;
 
@@ -26,7 +26,8 @@ pub trait Keyed {
         ensures answer { result ≡ keyed self.now };
 }
 
-// The first `len` of some lent cells, or all of them where there are fewer. The cells are lent: nothing here allocates.
+/// The first `len` of some lent cells, or all of them where there are fewer. The cells are lent:
+/// nothing here allocates.
 #[derive(Drop)]
 pub struct Row<'a, E> {
     cells: &'a mut [E],
@@ -42,16 +43,18 @@ fn insert<E: Copy>(cells: &mut [E], len: usize, i: usize, element: E)
     cells[i..len + 1].rotate_right(1);
 }
 
-// That a row ascends is asked of it where it matters, and is no invariant: whoever lends cells may lend any.
+// That a row ascends is asked of it where it matters, and is no invariant: whoever lends cells may
+// lend any.
 impl<'a, E: Keyed + Copy> Row<'a, E> {
-    // The row of the first `len` of these cells.
+    /// The row of the first `len` of these cells.
     pub fn over(cells: &'a mut [E], len: usize) -> Row<'a, E>
-        ensures over { (result.len ≡ len) × (result.cells.ghost_name ≡ cells.entry.ghost_name) × (result.cells.now ≡ cells.old) }
+        ensures over { (result.len ≡ len) × (result.cells.ghost_name ≡ cells.entry.ghost_name)
+            × (result.cells.now ≡ cells.old) }
     {
         Row { cells, len }
     }
 
-    // How many elements the row has.
+    /// How many elements the row has.
     pub fn len(&self) -> usize
         ensures answer { result ≡ min self.now.len (length (cells_of self.now)) }
     {
@@ -60,19 +63,24 @@ impl<'a, E: Keyed + Copy> Row<'a, E> {
 
     // The place of the key in the row: where it stands, or else where it would.
     fn seek(&self, key: E::Key) -> Result<usize, usize>
-        ensures bound { MatchResult result (λ i. i < length (row_of self.now)) (λ i. i ≤ length (row_of self.now)) }
-        ensures sought { (o : IsTotalOrder E.Key.Ord.cmp) → Ascending o E.keyed (row_of self.now) → Sought o E.keyed key (row_of self.now) result }
+        ensures bound { MatchResult result (λ i. i < length (row_of self.now))
+            (λ i. i ≤ length (row_of self.now)) }
+        ensures sought { (o : IsTotalOrder E.Key.Ord.cmp) → Ascending o E.keyed (row_of self.now)
+            → Sought o E.keyed key (row_of self.now) result }
     {
         let len = self.len();
         self.cells[..len].binary_search_by_key(&key, |element| element.key())
     }
 
-    // Puts an element at the place of its key, unless the key is there or no cell is free.
+    /// Puts an element at the place of its key, unless the key is there or no cell is free.
     pub fn put(&mut self, element: E) -> Place
         ensures lent { self.new.cells.ghost_name ≡ self.old.cells.ghost_name }
-        ensures stored { Stored element (row_of self.old) (cells_of self.old) (row_of self.new) (cells_of self.new) result }
-        ensures seated { (o : IsTotalOrder E.Key.Ord.cmp) → Ascending o E.keyed (row_of self.old) → Seated o E.keyed element (row_of self.old) result }
-        ensures ascends { (o : IsTotalOrder E.Key.Ord.cmp) → Ascending o E.keyed (row_of self.old) → Ascending o E.keyed (row_of self.new) }
+        ensures stored { Stored element (row_of self.old) (cells_of self.old) (row_of self.new)
+            (cells_of self.new) result }
+        ensures seated { (o : IsTotalOrder E.Key.Ord.cmp) → Ascending o E.keyed (row_of self.old)
+            → Seated o E.keyed element (row_of self.old) result }
+        ensures ascends { (o : IsTotalOrder E.Key.Ord.cmp) → Ascending o E.keyed (row_of self.old)
+            → Ascending o E.keyed (row_of self.new) }
     {
         let len = self.len();
         match self.seek(element.key()) {

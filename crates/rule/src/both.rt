@@ -1,4 +1,4 @@
-// Two rules, one after the other.
+//! Two rules, one after the other.
 ghost use Rattle.rule.specs.Both.{both as one_then_other};
 ghost use Rattle.rule.specs.Laws.Sequence.{both_sound};
 
@@ -6,7 +6,7 @@ use crate::{Rule, Verdict};
 use arrayvec::ArrayVec;
 use lots::{Lot, MAX_LOTS, Refusal};
 
-// Runs the first, and then the second on its table.
+/// Runs the first, and then the second on its table.
 #[derive(Clone, Copy, Default, Debug)]
 pub struct Both<X, Y> {
     pub first: X,
@@ -19,7 +19,8 @@ impl<X: Rule, Y: Rule> Rule for Both<X, Y> {
     ghost sound = { λ x. both_sound _ _ (X.Rule.sound x.first) (Y.Rule.sound x.second) };
 
     fn apply(&self, capacity: u16, lots: &mut [Lot]) -> Result<Verdict, Refusal> {
-        // Not as in `settle`: here the rules themselves ask whether the table is lawful, and too many lots are not copied.
+        // Not as in `settle`: here the rules themselves ask whether the table is lawful, and too
+        // many lots are not copied.
         let Ok(before) = ArrayVec::<Lot, MAX_LOTS>::try_from(&*lots) else {
             return Err(Refusal::Unlawful);
         };

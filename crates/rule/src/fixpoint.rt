@@ -1,4 +1,4 @@
-// A rule applied until nothing moves.
+//! A rule applied until nothing moves.
 ghost use Rattle.std.specs.Prelude.{◌+◌};
 ghost use Rattle.rule.specs.Settled.{Settles};
 
@@ -6,8 +6,9 @@ use crate::{Rule, Verdict};
 use arrayvec::ArrayVec;
 use lots::{Lot, MAX_LOTS, Refusal, Table};
 
-// Applies the rule until it is still or dead, and counts the applications. Dead puts back the windows from before.
-// The lots are lent to be written, so they come with the capacity and not as a `Table`.
+/// Applies the rule until it is still or dead, and counts the applications. Dead puts back the
+/// windows from before. The lots are lent to be written, so they come with the capacity and not as
+/// a `Table`.
 pub fn settle<R: Rule>(rule: &R, capacity: u16, lots: &mut [Lot]) -> Result<(Verdict, u32), Refusal>
     ensures answer { Settles (R.meaning rule.now) capacity lots.old lots.new result }
 {

@@ -1,4 +1,4 @@
-// The rule that does nothing.
+//! The rule that does nothing.
 ghost use Rattle.rule.specs.Idle.{idle as gives_back};
 ghost use Rattle.rule.specs.Laws.Tables.{idle_sound};
 

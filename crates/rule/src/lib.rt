@@ -1,4 +1,4 @@
-// What a rule is: it narrows the windows of a table and loses no schedule.
+//! What a rule is: it narrows the windows of a table and loses no schedule.
 #![tactic(auto)]
 
 ghost use Rattle.std.specs.Prelude.{Some};
@@ -20,14 +20,14 @@ pub use idle::Idle;
 pub use starts::raise;
 pub use turned::{Turned, turned_twice};
 
-// What an application did to the table.
+/// What an application did to the table.
 #[derive(Clone, Copy, PartialEq, Eq, Debug)]
 pub enum Verdict {
-    // The table is as it was.
+    /// The table is as it was.
     Still,
-    // Some window is narrower.
+    /// Some window is narrower.
     Moved,
-    // The table has no schedule. It is as it was.
+    /// The table has no schedule. It is as it was.
     Dead,
 }
 
@@ -43,12 +43,14 @@ impl fmt::Display for Verdict {
     }
 }
 
-// A rule, by its meaning. It owes four facts, and then every pile of it and every plan that it tightens is right.
+/// A rule, by its meaning. It owes four facts, and then every pile of it and every plan that it
+/// tightens is right.
 pub trait Rule {
     ghost meaning: { Self → Meaning };
 
-    // Writes the table that the rule makes of these lots over them, or refuses a table that is not lawful.
-    // The lots are lent to be written, so they and the capacity come apart and not as a `Table`.
+    /// Writes the table that the rule makes of these lots over them, or refuses a table that is not
+    /// lawful. The lots are lent to be written, so they and the capacity come apart and not as a
+    /// `Table`.
     fn apply(&self, capacity: u16, lots: &mut [Lot]) -> Result<Verdict, Refusal>
         ensures answer { Applied (meaning self.now) capacity lots.old lots.new result };
 

@@ -1,4 +1,4 @@
-// Earliest starts made later, all of them together.
+//! Earliest starts made later, all of them together.
 ghost use Rattle.std.specs.Prelude.{◌≡◌, ◌+◌, ◌<◌, max, true, nat_le, slice_index};
 ghost use Rattle.lots.specs.Tables.{ect as earliest_end};
 ghost use Rattle.rule.specs.Raised.{later_lot, later_lots, all_fit, raise as raised};
@@ -7,7 +7,8 @@ ghost use Rattle.rule.specs.Meanings.{IsVerdictOn};
 use crate::Verdict;
 use lots::Lot;
 
-// The bound of a lot. 0 where none is given: no est is lower, so it is no bound, and needs no `Option`.
+// The bound of a lot. 0 where none is given: no est is lower, so it is no bound, and needs no
+// `Option`.
 fn bound_of(bounds: &[u16], number: usize) -> u16
     ensures answer { result ≡ slice_index bounds.now number }
 {
@@ -38,9 +39,11 @@ fn every_run_fits(lots: &[Lot], bounds: &[u16]) -> bool
     true
 }
 
-// Has each lot start at its bound or later. It is dead, and nothing moves, where a run does not fit then.
+/// Has each lot start at its bound or later. It is dead, and nothing moves, where a run does not
+/// fit then.
 pub fn raise(lots: &mut [Lot], bounds: &[u16]) -> Verdict
-    ensures answer { IsVerdictOn (raised (λ j. slice_index bounds.now j) lots.old) lots.old lots.new result }
+    ensures answer { IsVerdictOn (raised (λ j. slice_index bounds.now j) lots.old) lots.old lots.new
+        result }
 {
     if !every_run_fits(lots, bounds) {
         return Verdict::Dead;

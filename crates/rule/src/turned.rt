@@ -1,4 +1,4 @@
-// A rule on the week read backwards: what it does to earliest starts, it then does to latest ends.
+//! A rule on the week read backwards: what it does to earliest starts, it then does to latest ends.
 ghost use Rattle.std.specs.Prelude.{◌≡◌, map};
 ghost use Rattle.std.specs.List.{AllByRecursion};
 ghost use Rattle.rule.specs.Turned.{turn as turned_lot, turned as turned_round, Alike};
@@ -48,9 +48,10 @@ impl<X: Rule> Rule for Turned<X> {
     }
 }
 
-// The rule turned twice, which means the rule itself.
+/// The rule turned twice, which means the rule itself.
 pub fn turned_twice<X: Rule>(rule: X) -> Turned<Turned<X>>
-    ensures alike { (result.rule.rule ≡ rule) × Alike (turned_round (turned_round (X.meaning rule))) (X.meaning rule) }
+    ensures alike { (result.rule.rule ≡ rule)
+        × Alike (turned_round (turned_round (X.meaning rule))) (X.meaning rule) }
 {
     Turned {
         rule: Turned { rule },

@@ -1,10 +1,11 @@
-// The distinct latest ends of a table, in their order.
+//! The distinct latest ends of a table, in their order.
 ghost use Rattle.rules.specs.Private.Ends.{DistinctEnds};
 
-use row::{ArrayRow, Keyed};
 use lots::{MAX_LOTS, Table};
+use row::{ArrayRow, Keyed};
 
-// A latest end, with the lowest number of a lot that has it, at which the search for the lots of this end begins.
+/// A latest end, with the lowest number of a lot that has it, at which the search for the lots of
+/// this end begins.
 #[derive(Clone, Copy, Default)]
 pub(crate) struct End {
     pub(crate) lct: u16,
@@ -21,7 +22,7 @@ impl Keyed for End {
     }
 }
 
-// Of the lots with one latest end, the first to come is the lowest, and stays.
+/// Of the lots with one latest end, the first to come is the lowest, and stays.
 pub(crate) fn distinct_ends(table: Table<'_>) -> ArrayRow<End, MAX_LOTS>
     ensures answer { DistinctEnds table.entry.lots.now result }
 {

@@ -1,4 +1,4 @@
-// The pile that the house uses.
+//! The pile that the house uses.
 ghost use Rattle.std.specs.Prelude.{◌≡◌};
 ghost use Rattle.rules.specs.House.{house as the_house};
 ghost use Rattle.rules.specs.Laws.HouseSound.{house_sound};
@@ -13,13 +13,13 @@ type Pile = Both<
     Both<TimeTable, Both<NotFirst, Both<Turned<TimeTable>, Turned<NotFirst>>>>,
 >;
 
-// The house pile, as a rule of a type of its own: its meaning is one definition.
+/// The house pile, as a rule of a type of its own: its meaning is one definition.
 #[derive(Clone, Copy, Debug)]
 pub struct House {
     pile: Pile,
 }
 
-// The house pile.
+/// The house pile.
 pub fn house_pile() -> House
     ensures house { ⟦<House as Rule>⟧.meaning result ≡ the_house }
 {

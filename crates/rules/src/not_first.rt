@@ -1,4 +1,4 @@
-// Raises the earliest start of a lot that cannot start before some others have ended.
+//! Raises the earliest start of a lot that cannot start before some others have ended.
 ghost use Rattle.std.specs.Prelude.{◌≡◌, ℕ, ◌<◌, length, slice_index};
 ghost use Rattle.lots.specs.Tables.{lot_at};
 ghost use Rattle.elastic.specs.Profile.{has};
@@ -38,9 +38,12 @@ impl Candidate<'_> {
         self.table.lots[self.number]
     }
 
-    // Whether the lot of a number is another, cannot be out by the est of this one, and must be out by a minute.
+    // Whether the lot of a number is another, cannot be out by the est of this one, and must be out
+    // by a minute.
     fn is_in_cut(self, number: usize, lot: &Lot, minute: u16) -> bool
-        ensures answer { result ≡ in_cut self.entry.number (lot_at self.entry.table.lots.now self.entry.number).est minute number lot.now }
+        ensures answer { result
+            ≡ in_cut self.entry.number (lot_at self.entry.table.lots.now self.entry.number).est
+            minute number lot.now }
     {
         number != self.number && u32::from(self.lot().est) < lot.ect() && lot.lct <= minute
     }
@@ -55,15 +58,17 @@ impl Candidate<'_> {
         )
     }
 
-    // Adds the lots of the cut that have a latest end, and answers whether there are any. The cut also has lots of earlier
-    // ends, which were added at these; and no lot has this end before the lowest, so the search for them begins there.
+    // Adds the lots of the cut that have a latest end, and answers whether there are any. The cut
+    // also has lots of earlier ends, which were added at these; and no lot has this end before the
+    // lowest, so the search for them begins there.
     fn grow(self, profile: &mut Profile<'_>, end: End) -> bool
         requires table { profile.old.table ≡ self.table }
         requires lowest { Lowest self.table.lots.now end }
         requires before { MarksBefore self.table.lots.now self.number end.lct profile.old.added }
         ensures table { profile.new.table ≡ self.entry.table }
         ensures cut { Marks self.entry.table.lots.now self.entry.number end.lct profile.new.added }
-        ensures grown { result ≡ has end.lct (ends_of (the_cut self.entry.table.lots.now self.entry.number end.lct)) }
+        ensures grown { result
+            ≡ has end.lct (ends_of (the_cut self.entry.table.lots.now self.entry.number end.lct)) }
     {
         let lots = self.table.lots;
         let mut grown = false;
@@ -77,14 +82,17 @@ impl Candidate<'_> {
         grown
     }
 
-    // The bound that a latest end puts on its est. 0 where it puts none, which is no bound, and so no `Option`.
+    // The bound that a latest end puts on its est. 0 where it puts none, which is no bound, and so
+    // no `Option`.
     fn bound_at(self, profile: &mut Profile<'_>, end: End) -> u16
         requires table { profile.old.table ≡ self.table }
         requires lowest { Lowest self.table.lots.now end }
         requires before { MarksBefore self.table.lots.now self.number end.lct profile.old.added }
         ensures table { profile.new.table ≡ self.entry.table }
         ensures cut { Marks self.entry.table.lots.now self.entry.number end.lct profile.new.added }
-        ensures bound { result ≡ end_bound self.entry.table.capacity self.entry.table.lots.now self.entry.number end.lct }
+        ensures bound { result
+            ≡ end_bound self.entry.table.capacity self.entry.table.lots.now self.entry.number
+            end.lct }
     {
         if !self.grow(profile, end) {
             return 0;
@@ -98,11 +106,14 @@ impl Candidate<'_> {
         least_end(self.cut(end.lct).as_slice()) as u16
     }
 
-    // The greatest bound that the latest ends put on its est. 0 without ends, which is no bound, and so no `Option`. The
-    // cut up to a later end has all lots of an earlier one, so one profile grows from end to end.
+    // The greatest bound that the latest ends put on its est. 0 without ends, which is no bound,
+    // and so no `Option`. The cut up to a later end has all lots of an earlier one, so one profile
+    // grows from end to end.
     fn bound(self, ends: &[End]) -> u16
         requires all { DistinctEnds self.table.lots.now ends.now }
-        ensures answer { result ≡ greatest_end_bound self.entry.table.capacity self.entry.table.lots.now self.entry.number (end_minutes ends.now) }
+        ensures answer { result
+            ≡ greatest_end_bound self.entry.table.capacity self.entry.table.lots.now
+            self.entry.number (end_minutes ends.now) }
     {
         let mut profile = Profile::new(self.table);
         let mut bound = 0;
@@ -116,7 +127,9 @@ impl Candidate<'_> {
 // The new bounds of the lots, by number.
 fn bounds_of(table: Table<'_>, ends: &[End]) -> [u16; MAX_LOTS]
     requires all { DistinctEnds table.lots.now ends.now }
-    ensures answer { (i : ℕ) → i < length table.entry.lots.now → slice_index result i ≡ greatest_end_bound table.entry.capacity table.entry.lots.now i (end_minutes ends.now) }
+    ensures answer { (i : ℕ) → i < length table.entry.lots.now
+        → slice_index result i
+        ≡ greatest_end_bound table.entry.capacity table.entry.lots.now i (end_minutes ends.now) }
 {
     // An array: 0 past the last lot is no bound.
     let mut bounds = [0; MAX_LOTS];

@@ -1,4 +1,4 @@
-// Dead where some lots that must all be out by a minute are overfull.
+//! Dead where some lots that must all be out by a minute are overfull.
 ghost use Rattle.std.specs.Prelude.{◌≡◌};
 ghost use Rattle.rules.specs.Chosen.{overfull};
 ghost use Rattle.rules.specs.Private.Ends.{end_minutes};
@@ -26,7 +26,8 @@ fn overfull_by(table: Table<'_>, minute: u16) -> bool
 
 // Whether, for some of the ends, the lots that must be out by then are overfull.
 fn some_overfull(table: Table<'_>, ends: &[End]) -> bool
-    ensures answer { result ≡ overfull_at_some table.entry.capacity table.entry.lots.now (end_minutes ends.now) }
+    ensures answer { result
+        ≡ overfull_at_some table.entry.capacity table.entry.lots.now (end_minutes ends.now) }
 {
     ends.iter().any(|end| overfull_by(table, end.lct))
 }

@@ -1,4 +1,5 @@
-// The rule time-table: a lot starts after the minutes at which it does not fit beside the fixed parts of the others.
+//! The rule time-table: a lot starts after the minutes at which it does not fit beside the fixed
+//! parts of the others.
 ghost use Rattle.std.specs.Prelude.{◌≡◌, ℕ, ◌<◌, length, nat_lt, slice_index};
 ghost use Rattle.lots.specs.Limits.{horizon, max_capacity};
 ghost use Rattle.lots.specs.Tables.{ect as earliest_end, LawfulLot};
@@ -23,7 +24,8 @@ fn fixed_at(lot: Lot, minute: u32) -> u16
     }
 }
 
-// The trays that the fixed parts of all lots of a table hold, one number for each minute of the week.
+// The trays that the fixed parts of all lots of a table hold, one number for each minute of the
+// week.
 #[derive(Drop)]
 struct Loads<'a> {
     table: Table<'a>,
@@ -37,7 +39,8 @@ impl<'a> Loads<'a> {
     {
         let mut by_minute = [0; MINUTES];
         for lot in table.lots {
-            // By number: a lot may have no fixed part, its lst past its ect, and then there is no part of a slice to go through.
+            // By number: a lot may have no fixed part, its lst past its ect, and then there is no
+            // part of a slice to go through.
             for minute in u32::from(lot.lst())..lot.ect() {
                 by_minute[minute as usize] += lot.c;
             }
@@ -47,18 +50,23 @@ impl<'a> Loads<'a> {
 
     // Whether the load passes the capacity at some minute.
     fn some_passes(&self) -> bool
-        ensures answer { result ≡ some_below (λ t. nat_lt self.now.table.capacity (fixed_load self.now.table.lots.now t)) horizon }
+        ensures answer { result
+            ≡ some_below
+            (λ t. nat_lt self.now.table.capacity (fixed_load self.now.table.lots.now t)) horizon }
     {
         self.by_minute
             .iter()
             .any(|load| *load > self.table.capacity)
     }
 
-    // The minute after the last at which the lot, started at its est, does not fit beside the fixed parts of the others.
-    // 0 where there is none, which is no bound, and so no `Option`. The lot is given alone, so that it is lawful is asked.
+    // The minute after the last at which the lot, started at its est, does not fit beside the fixed
+    // parts of the others. 0 where there is none, which is no bound, and so no `Option`. The lot is
+    // given alone, so that it is lawful is asked.
     fn bound(&self, lot: Lot) -> u16
         requires lawful { LawfulLot max_capacity lot }
-        ensures answer { result ≡ after_last (blocked_under self.now.by_minute self.now.table.capacity lot) (earliest_end lot) }
+        ensures answer { result
+            ≡ after_last (blocked_under self.now.by_minute self.now.table.capacity lot)
+            (earliest_end lot) }
     {
         (u32::from(lot.est)..lot.ect())
             .rev()
@@ -71,7 +79,8 @@ impl<'a> Loads<'a> {
 
     // The new bounds of the lots, by number.
     fn bounds(&self) -> [u16; MAX_LOTS]
-        ensures answer { (j : ℕ) → j < length self.now.table.lots.now → slice_index result j ≡ bound_of self.now.table.capacity self.now.table.lots.now j }
+        ensures answer { (j : ℕ) → j < length self.now.table.lots.now
+            → slice_index result j ≡ bound_of self.now.table.capacity self.now.table.lots.now j }
     {
         // An array: 0 past the last lot is no bound.
         let mut bounds = [0; MAX_LOTS];
@@ -90,7 +99,8 @@ impl Rule for TimeTable {
 
     ghost sound = { λ x. time_table_sound };
 
-    // Not inlined: a caller would keep the loads of the week's minutes on its own stack, and a pile once for each level.
+    // Not inlined: a caller would keep the loads of the week's minutes on its own stack, and a pile
+    // once for each level.
     #[inline(never)]
     fn apply(&self, capacity: u16, lots: &mut [Lot]) -> Result<Verdict, Refusal> {
         let table = Table::new(capacity, lots)?;

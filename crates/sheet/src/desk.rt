@@ -1,4 +1,4 @@
-// The desk at which a sheet is run: what is known of it so far.
+//! The desk at which a sheet is run: what is known of it so far.
 ghost use Rattle.std.specs.Prelude.{◌≡◌, ℕ, ◌<◌, ◌↔◌, IsTrue, length};
 ghost use Rattle.lots.specs.Limits.{max_lots};
 ghost use Rattle.rule.specs.Meanings.{Meaning};
@@ -56,28 +56,28 @@ impl<'a> Desk<'a> {
         }
     }
 
-    // The number of the line that is due.
+    /// The number of the line that is due.
     pub fn line(&self) -> u32
         ensures answer { result ≡ self.now.line }
     {
         self.line
     }
 
-    // Whether the sheet may end here.
+    /// Whether the sheet may end here.
     pub fn may_end(&self) -> bool
         ensures answer { IsTrue result ↔ MayEnd self.now }
     {
         self.line > self.head()
     }
 
-    // Whether all commands that a sheet may have were run.
+    /// Whether all commands that a sheet may have were run.
     pub fn is_full(&self) -> bool
         ensures answer { IsTrue result ↔ Full self.now }
     {
         self.line.saturating_sub(self.head()) > MAX_COMMANDS
     }
 
-    // Whether the line is of the form that is due.
+    /// Whether the line is of the form that is due.
     pub fn is_due(&self, line: &Line<'_>) -> bool
         ensures answer { IsTrue result ↔ Due self.now (said line.now) }
     {
@@ -101,7 +101,7 @@ impl<'a> Desk<'a> {
         1 + 2 * u32::from(self.lots)
     }
 
-    // Runs a line that is due, and prints what it answers.
+    /// Runs a line that is due, and prints what it answers.
     pub fn run<R: Rule>(
         &mut self,
         rule: &R,
@@ -110,7 +110,8 @@ impl<'a> Desk<'a> {
     ) -> Result<(), Refusal>
         requires ready { Ready self.old (said line) page.old }
         ensures same_buffer { page.new.buffer.ghost_name ≡ page.old.buffer.ghost_name }
-        ensures ran { Ran (R.meaning rule.now) self.old (said line.entry) self.new page.old page.new result }
+        ensures ran { Ran (R.meaning rule.now) self.old (said line.entry) self.new page.old page.new
+            result }
     {
         match line {
             Line::Machine { capacity, lots } => self.open(capacity, lots),
@@ -124,7 +125,8 @@ impl<'a> Desk<'a> {
 
     fn open(&mut self, capacity: u16, lots: u16) -> Result<(), Refusal>
         requires has_line { HasLine self.old }
-        ensures answer { (m : Meaning) (p : Page) → Ran m self.old (machine capacity lots) self.new p p result }
+        ensures answer { (m : Meaning) (p : Page)
+            → Ran m self.old (machine capacity lots) self.new p p result }
     {
         self.plan.open(capacity)?;
         self.lots = lots;
@@ -136,7 +138,8 @@ impl<'a> Desk<'a> {
     fn name(&mut self, name: &'a [u8]) -> Result<(), Refusal>
         requires has_line { HasLine self.old }
         requires few { length self.old.names < max_lots }
-        ensures answer { (m : Meaning) (p : Page) → Ran m self.old (named name.now) self.new p p result }
+        ensures answer { (m : Meaning) (p : Page)
+            → Ran m self.old (named name.now) self.new p p result }
     {
         self.names.push(name);
         self.line += 1;
@@ -145,7 +148,8 @@ impl<'a> Desk<'a> {
 
     fn admit(&mut self, lot: Lot) -> Result<(), Refusal>
         requires has_line { HasLine self.old }
-        ensures answer { (m : Meaning) (i : ℕ) (p : Page) → Ran m self.old (lot_line i lot) self.new p p result }
+        ensures answer { (m : Meaning) (i : ℕ) (p : Page)
+            → Ran m self.old (lot_line i lot) self.new p p result }
     {
         self.plan.admit(lot)?;
         self.line += 1;
@@ -156,7 +160,8 @@ impl<'a> Desk<'a> {
         requires has_line { HasLine self.old }
         requires room { HasRoom page.old narrow_print }
         ensures same_buffer { page.new.buffer.ghost_name ≡ page.old.buffer.ghost_name }
-        ensures ran { (m : Meaning) → Ran m self.old (narrow_line lot from to) self.new page.old page.new result }
+        ensures ran { (m : Meaning)
+            → Ran m self.old (narrow_line lot from to) self.new page.old page.new result }
     {
         self.plan.narrow(lot.into(), from, to)?;
         print_narrow(page);
@@ -167,7 +172,8 @@ impl<'a> Desk<'a> {
     fn tighten<R: Rule>(&mut self, rule: &R, page: &mut Page<'_>) -> Result<(), Refusal>
         requires ready { Ready self.old tighten_line page.old }
         ensures same_buffer { page.new.buffer.ghost_name ≡ page.old.buffer.ghost_name }
-        ensures ran { Ran (R.meaning rule.now) self.old tighten_line self.new page.old page.new result }
+        ensures ran { Ran (R.meaning rule.now) self.old tighten_line self.new page.old page.new
+            result }
     {
         let (verdict, applications) = self.plan.tighten(rule);
         print_tighten(page, verdict, applications, &self.names, self.plan.lots());
@@ -178,7 +184,8 @@ impl<'a> Desk<'a> {
     fn solve<R: Rule>(&mut self, rule: &R, budget: u32, page: &mut Page<'_>) -> Result<(), Refusal>
         requires ready { Ready self.old (solve_line budget) page.old }
         ensures same_buffer { page.new.buffer.ghost_name ≡ page.old.buffer.ghost_name }
-        ensures ran { Ran (R.meaning rule.now) self.old (solve_line budget) self.new page.old page.new result }
+        ensures ran { Ran (R.meaning rule.now) self.old (solve_line budget) self.new page.old
+            page.new result }
     {
         let mut trail = [Lot::default(); MAX_TRAIL];
         let mut starts = [0; MAX_LOTS];

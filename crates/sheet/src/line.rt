@@ -1,11 +1,11 @@
-// The lines of a sheet.
+//! The lines of a sheet.
 ghost use Rattle.sheet.specs.Private.Said.{said};
 ghost use Rattle.sheet.specs.Private.Words.{Takes, BeginsBy};
 
 use crate::reader::Reader;
 use lots::{Lot, MAX_LOTS};
 
-// What a line says.
+/// What a line says.
 #[derive(Clone, Copy, PartialEq, Eq, Debug)]
 pub(crate) enum Line<'a> {
     Machine { capacity: u16, lots: u16 },
@@ -17,7 +17,7 @@ pub(crate) enum Line<'a> {
 }
 
 impl<'a> Line<'a> {
-    // The line that begins with the letter and goes on with the words.
+    /// The line that begins with the letter and goes on with the words.
     pub fn read(letter: char, words: &mut Reader<'a>) -> Option<Line<'a>>
         ensures answer { Takes said (BeginsBy letter words.old) result words.new }
     {

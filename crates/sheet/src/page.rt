@@ -1,4 +1,4 @@
-// A page: the print so far, at the front of a lent buffer.
+//! A page: the print so far, at the front of a lent buffer.
 ghost use Rattle.std.specs.Prelude.{◌≡◌, ◌+◌, decimal};
 ghost use Rattle.lots.specs.Texts.{numbers as written_numbers};
 ghost use Rattle.sheet.specs.Private.Pages.{Adds, HasRoom};
@@ -12,7 +12,7 @@ pub(crate) struct Page<'a> {
 }
 
 impl<'a> Page<'a> {
-    // A page with no print yet.
+    /// A page with no print yet.
     pub(crate) fn over(buffer: &'a mut [u8]) -> Page<'a>
         ensures same_buffer { result.buffer.ghost_name ≡ buffer.entry.ghost_name }
         ensures blank { (result.len ≡ 0) × (result.buffer.now ≡ buffer.old) }
@@ -20,7 +20,7 @@ impl<'a> Page<'a> {
         Page { buffer, len: 0 }
     }
 
-    // How many bytes are printed.
+    /// How many bytes are printed.
     pub(crate) fn len(&self) -> usize
         ensures answer { result ≡ self.now.len }
     {
@@ -45,7 +45,7 @@ impl<'a> Page<'a> {
         self.put(Buffer::new().format(number).as_bytes());
     }
 
-    // Each number after a space.
+    /// Each number after a space.
     pub(crate) fn put_numbers(&mut self, numbers: &[u32])
         requires room { HasRoom self.old (written_numbers numbers.now) }
         ensures same_buffer { self.new.buffer.ghost_name ≡ self.old.buffer.ghost_name }

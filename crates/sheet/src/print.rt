@@ -1,4 +1,4 @@
-// What is printed for each command, and for a refusal.
+//! What is printed for each command, and for a refusal.
 ghost use Rattle.std.specs.Prelude.{◌≡◌, ◌++◌, length, codes, take};
 ghost use Rattle.lots.specs.Texts.{numbers as written_numbers};
 ghost use Rattle.sheet.specs.Private.Pages.{Adds, HasRoom, bytes_of};
@@ -25,7 +25,8 @@ pub(crate) fn print_refusal(page: &mut Page<'_>, refusal: Refusal, line: u32)
     print_numbers(page, b"R", &[u8::from(refusal).into(), line]);
 }
 
-// The verdict and the number of applications, and then the windows of the lots afterwards, unless they are dead.
+/// The verdict and the number of applications, and then the windows of the lots afterwards, unless
+/// they are dead.
 pub(crate) fn print_tighten(
     page: &mut Page<'_>,
     verdict: Verdict,
@@ -33,9 +34,11 @@ pub(crate) fn print_tighten(
     names: &[&[u8]],
     lots: &[Lot],
 )
-    requires room { HasRoom page.old (tighten_print verdict applications (bytes_of names.now) lots.now) }
+    requires room { HasRoom page.old
+        (tighten_print verdict applications (bytes_of names.now) lots.now) }
     ensures same_buffer { page.new.buffer.ghost_name ≡ page.old.buffer.ghost_name }
-    ensures adds { Adds page.old (tighten_print verdict applications (bytes_of names.now) lots.now) page.new }
+    ensures adds { Adds page.old (tighten_print verdict applications (bytes_of names.now) lots.now)
+        page.new }
 {
     match verdict {
         Verdict::Still => print_numbers(page, b"T still", &[applications]),
@@ -45,7 +48,7 @@ pub(crate) fn print_tighten(
     print_windows(page, names, lots);
 }
 
-// What a search answers, and the starts of the best schedule, the first of those in `starts`.
+/// What a search answers, and the starts of the best schedule, the first of those in `starts`.
 pub(crate) fn print_solve(page: &mut Page<'_>, answer: Search, names: &[&[u8]], starts: &[u16])
     requires room { HasRoom page.old (solve_print answer (bytes_of names.now) starts.now) }
     ensures same_buffer { page.new.buffer.ghost_name ≡ page.old.buffer.ghost_name }
@@ -72,9 +75,11 @@ fn print_windows(page: &mut Page<'_>, names: &[&[u8]], lots: &[Lot])
 }
 
 fn print_starts(page: &mut Page<'_>, names: &[&[u8]], starts: &[u16])
-    requires room { HasRoom page.old (start_lines (bytes_of names.now) (take (length names.now) starts.now)) }
+    requires room { HasRoom page.old
+        (start_lines (bytes_of names.now) (take (length names.now) starts.now)) }
     ensures same_buffer { page.new.buffer.ghost_name ≡ page.old.buffer.ghost_name }
-    ensures adds { Adds page.old (start_lines (bytes_of names.now) (take (length names.now) starts.now)) page.new }
+    ensures adds { Adds page.old
+        (start_lines (bytes_of names.now) (take (length names.now) starts.now)) page.new }
 {
     for (name, start) in names.iter().zip(starts) {
         print_named(page, b"A", &[u32::from(*start)], name);
@@ -94,9 +99,11 @@ fn print_numbers(page: &mut Page<'_>, word: &[u8], numbers: &[u32])
 
 // A line of a word, some numbers and a name.
 fn print_named(page: &mut Page<'_>, word: &[u8], numbers: &[u32], name: &[u8])
-    requires room { HasRoom page.old (ended (word.now ++ (written_numbers numbers.now ++ (codes " " ++ name.now)))) }
+    requires room { HasRoom page.old
+        (ended (word.now ++ (written_numbers numbers.now ++ (codes " " ++ name.now)))) }
     ensures same_buffer { page.new.buffer.ghost_name ≡ page.old.buffer.ghost_name }
-    ensures adds { Adds page.old (ended (word.now ++ (written_numbers numbers.now ++ (codes " " ++ name.now)))) page.new }
+    ensures adds { Adds page.old
+        (ended (word.now ++ (written_numbers numbers.now ++ (codes " " ++ name.now)))) page.new }
 {
     page.put(word);
     page.put_numbers(numbers);

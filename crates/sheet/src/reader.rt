@@ -1,4 +1,4 @@
-// Reads a sheet line by line.
+//! Reads a sheet line by line.
 ghost use Rattle.std.specs.Prelude.{◌≡◌, ℕ, ◌≤◌, ◌↔◌, IsTrue, List, [], ◌∷◌, length, MatchOption};
 ghost use Rattle.sheet.specs.Lines.{Line as AnyLine, BeginsWithLine, newline};
 ghost use Rattle.sheet.specs.Private.Said.{said};
@@ -8,7 +8,7 @@ use crate::line::Line;
 use crate::token::Token;
 use std::marker::Model;
 
-// What is still to be read of a sheet.
+/// What is still to be read of a sheet.
 #[derive(Drop)]
 pub(crate) struct Reader<'a> {
     sheet: &'a [u8],
@@ -38,9 +38,11 @@ impl<'a> Reader<'a> {
         self.at == self.sheet.len()
     }
 
-    // The next line. Where none comes next, nothing is read.
+    /// The next line. Where none comes next, nothing is read.
     pub fn line(&mut self) -> Option<Line<'a>>
-        ensures answer { MatchOption result (((l : AnyLine) (rest : List ℕ) → BeginsWithLine self.old l rest → ⊥) × (self.new ≡ self.old)) (λ l. BeginsWithLine self.old (said l) self.new) }
+        ensures answer { MatchOption result
+            (((l : AnyLine) (rest : List ℕ) → BeginsWithLine self.old l rest → ⊥)
+            × (self.new ≡ self.old)) (λ l. BeginsWithLine self.old (said l) self.new) }
     {
         let mut ahead = Reader {
             sheet: self.sheet,
@@ -62,7 +64,8 @@ impl<'a> Reader<'a> {
     }
 
     fn end_line(&mut self) -> Option<()>
-        ensures answer { MatchOption result ((rest : List ℕ) → self.old ≡ newline ∷ rest → ⊥) (λ _. self.old ≡ newline ∷ self.new) }
+        ensures answer { MatchOption result ((rest : List ℕ) → self.old ≡ newline ∷ rest → ⊥)
+            (λ _. self.old ≡ newline ∷ self.new) }
     {
         if *self.sheet.get(self.at)? != b'\n' {
             return None;
@@ -71,7 +74,7 @@ impl<'a> Reader<'a> {
         Some(())
     }
 
-    // A number after a space.
+    /// A number after a space.
     pub fn number(&mut self) -> Option<u32>
         ensures answer { Takes (λ n. n) (BeginsWithNumber self.old) result self.new }
     {
@@ -80,7 +83,7 @@ impl<'a> Reader<'a> {
         token.value()
     }
 
-    // Numbers of 16 bits, each after a space.
+    /// Numbers of 16 bits, each after a space.
     pub fn numbers<const N: usize>(&mut self) -> Option<[u16; N]>
         ensures answer { Takes (λ ns. ns) (BeginsWithNumbers N self.old) result self.new }
     {
@@ -91,7 +94,7 @@ impl<'a> Reader<'a> {
         Some(numbers)
     }
 
-    // A name after a space.
+    /// A name after a space.
     pub fn name(&mut self) -> Option<&'a [u8]>
         ensures answer { Takes (λ w. w.now) (BeginsWithName self.old) result self.new }
     {

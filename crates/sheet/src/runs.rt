@@ -1,4 +1,4 @@
-// A sheet is run line by line, and what its commands answer is printed.
+//! A sheet is run line by line, and what its commands answer is printed.
 ghost use Rattle.std.specs.Prelude.{◌≡◌, ℕ, ◌≤◌, List, [], length, IfOk};
 ghost use Rattle.sheet.specs.Private.Desks.{Orderly, RoomFor};
 ghost use Rattle.sheet.specs.Private.Pages.{Adds};
@@ -12,14 +12,15 @@ use crate::reader::Reader;
 use lots::Refusal;
 use rule::Rule;
 
-// The most bytes that a sheet may have.
+/// The most bytes that a sheet may have.
 pub const MAX_SHEET: usize = 16_384;
-// The fewest bytes that a buffer for the print of a sheet may have.
+/// The fewest bytes that a buffer for the print of a sheet may have.
 pub const MIN_PRINT: usize = 32_768;
 // The line number of a refusal of the whole sheet.
 const WHOLE_SHEET: u32 = 0;
 
-// Runs the lines of the sheet in order, and answers the length of its print. The rule is what tightens and searches its plan.
+/// Runs the lines of the sheet in order, and answers the length of its print. The rule is what
+/// tightens and searches its plan.
 pub fn run<R: Rule>(rule: &R, sheet: &[u8], print: &mut [u8]) -> Result<usize, Refusal>
     ensures exact { Printed (R.meaning rule.now) sheet.now print.old print.new result }
     ensures fits { IfOk result (λ n. n ≤ length print.old) }
@@ -35,7 +36,8 @@ pub fn run<R: Rule>(rule: &R, sheet: &[u8], print: &mut [u8]) -> Result<usize, R
 fn run_sheet<R: Rule>(rule: &R, sheet: &[u8], page: &mut Page<'_>)
     requires room { RoomFor new_desk page.old }
     ensures same_buffer { page.new.buffer.ghost_name ≡ page.old.buffer.ghost_name }
-    ensures adds { (out : List ℕ) × PrintOf (R.meaning rule.now) sheet.now out × Adds page.old out page.new }
+    ensures adds { (out : List ℕ) × PrintOf (R.meaning rule.now) sheet.now out
+        × Adds page.old out page.new }
 {
     if sheet.len() > MAX_SHEET {
         return print_refusal(page, Refusal::SheetLength, WHOLE_SHEET);
@@ -47,7 +49,8 @@ fn run_sheet<R: Rule>(rule: &R, sheet: &[u8], page: &mut Page<'_>)
 fn run_lines<R: Rule>(rule: &R, sheet: &[u8], page: &mut Page<'_>)
     requires room { RoomFor new_desk page.old }
     ensures same_buffer { page.new.buffer.ghost_name ≡ page.old.buffer.ghost_name }
-    ensures adds { (out : List ℕ) × Prints (R.meaning rule.now) new_desk sheet.now out × Adds page.old out page.new }
+    ensures adds { (out : List ℕ) × Prints (R.meaning rule.now) new_desk sheet.now out
+        × Adds page.old out page.new }
 {
     let mut desk = Desk::new();
     let mut reader = Reader::new(sheet);
@@ -70,7 +73,8 @@ fn run_line<'a, R: Rule>(
     requires orderly { Orderly desk.old }
     requires room { RoomFor desk.old page.old }
     ensures same_buffer { page.new.buffer.ghost_name ≡ page.old.buffer.ghost_name }
-    ensures took { Took (R.meaning rule.now) desk.old reader.old desk.new reader.new page.old page.new result }
+    ensures took { Took (R.meaning rule.now) desk.old reader.old desk.new reader.new page.old
+        page.new result }
 {
     let line = match reader.line() {
         Some(line) if desk.is_due(&line) => line,

@@ -1,4 +1,4 @@
-// What sheets print, with the rule that does nothing.
+//! What sheets print, with the rule that does nothing.
 use super::{MAX_SHEET, MIN_PRINT, run};
 use lots::Refusal;
 use rule::Idle;

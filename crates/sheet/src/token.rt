@@ -1,4 +1,4 @@
-// The words of a sheet.
+//! The words of a sheet.
 ghost use Rattle.std.specs.Prelude.{◌≡◌, ◌+◌, ◌^◌, ◌<◌, ◌≤◌, ◌≢◌, length, drop, slice_index, slice_index_or, MatchOption, ◌↔◌, IsTrue, decimal};
 ghost use Rattle.std.specs.Char.{IsAsciiDigit};
 ghost use Rattle.lots.specs.Texts.{space};
@@ -16,7 +16,7 @@ const FIRST_PRINTABLE: u8 = 32;
 
 const LAST_PRINTABLE: u8 = 126;
 
-// A part of the sheet, and its place there.
+/// A part of the sheet, and its place there.
 #[derive(Clone, Copy)]
 pub(crate) enum Token<'a> {
     Name(&'a [u8], usize),
@@ -25,7 +25,7 @@ pub(crate) enum Token<'a> {
 }
 
 impl<'a> Token<'a> {
-    // The command at a place.
+    /// The command at a place.
     pub fn command(sheet: &'a [u8], at: usize) -> Option<Token<'a>>
         ensures answer { MatchOption result (length sheet.now ≤ at) (CommandAt sheet.now at) }
     {
@@ -34,23 +34,25 @@ impl<'a> Token<'a> {
             .map(|letter| Token::Command(*letter as char, at))
     }
 
-    // The number word after the space at a place: as many digits as stand there.
+    /// The number word after the space at a place: as many digits as stand there.
     pub fn number(sheet: &'a [u8], at: usize) -> Option<Token<'a>>
-        ensures answer { MatchOption result (slice_index_or sheet.now at 0 ≢ space) (NumberAt sheet.now at) }
+        ensures answer { MatchOption result (slice_index_or sheet.now at 0 ≢ space)
+            (NumberAt sheet.now at) }
     {
         let rest = after_space(sheet, at)?;
         Some(Token::Number(&rest[..digits(rest)], at + 1))
     }
 
-    // The name after the space at a place: as many printable bytes as stand there.
+    /// The name after the space at a place: as many printable bytes as stand there.
     pub fn name(sheet: &'a [u8], at: usize) -> Option<Token<'a>>
-        ensures answer { MatchOption result (slice_index_or sheet.now at 0 ≢ space) (NameAt sheet.now at) }
+        ensures answer { MatchOption result (slice_index_or sheet.now at 0 ≢ space)
+            (NameAt sheet.now at) }
     {
         let rest = after_space(sheet, at)?;
         Some(Token::Name(&rest[..printable(rest)], at + 1))
     }
 
-    // The place after it.
+    /// The place after it.
     pub fn end(&self) -> usize
         requires fits { end_of self.now < 2 ^ 64 }
         ensures answer { result ≡ end_of self.now }
@@ -61,7 +63,7 @@ impl<'a> Token<'a> {
         }
     }
 
-    // The letter of a command.
+    /// The letter of a command.
     pub fn letter(&self) -> Option<char>
         ensures answer { Reads (Letter self.now) result }
     {
@@ -71,7 +73,7 @@ impl<'a> Token<'a> {
         }
     }
 
-    // The number that a number word writes in decimal without leading zeros, where it fits.
+    /// The number that a number word writes in decimal without leading zeros, where it fits.
     pub fn value(&self) -> Option<u32>
         ensures answer { Reads (Numeral self.now) result }
     {
@@ -81,7 +83,7 @@ impl<'a> Token<'a> {
         }
     }
 
-    // The bytes of a name, where they are neither too few nor too many.
+    /// The bytes of a name, where they are neither too few nor too many.
     pub fn called(&self) -> Option<&'a [u8]>
         ensures answer { Reads (Called self.now) result }
     {
@@ -94,7 +96,9 @@ impl<'a> Token<'a> {
 
 // What follows the space at a place.
 fn after_space(sheet: &[u8], at: usize) -> Option<&[u8]>
-    ensures answer { MatchOption result (slice_index_or sheet.now at 0 ≢ space) (λ rest. (at < length sheet.now) × (slice_index sheet.now at ≡ space) × (rest.now ≡ drop (at + 1) sheet.now)) }
+    ensures answer { MatchOption result (slice_index_or sheet.now at 0 ≢ space)
+        (λ rest. (at < length sheet.now) × (slice_index sheet.now at ≡ space)
+        × (rest.now ≡ drop (at + 1) sheet.now)) }
 {
     match sheet.get(at) {
         Some(b' ') => Some(&sheet[at + 1..]),

@@ -1,4 +1,4 @@
-// Sheets with the rules of the house: worked sheets.
+//! Sheets with the rules of the house: worked sheets.
 #![tactic(auto)]
 
 #[cfg(test)]

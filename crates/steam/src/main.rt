@@ -1,4 +1,5 @@
-// Reads a sheet from standard input, runs it with the house pile, and writes its print to standard output.
+//! Reads a sheet from standard input, runs it with the house pile, and writes its print to standard
+//! output.
 #![tactic(auto)]
 
 use anyhow::anyhow;

@@ -1,4 +1,4 @@
-// The search: it visits the tree of a table, left before right, as far as the budget reaches.
+//! The search: it visits the tree of a table, left before right, as far as the budget reaches.
 ghost use Rattle.std.specs.Prelude.{◌≡◌, ◌+◌, ◌-◌, ◌*◌, ◌<◌, ◌≤◌, ◌∷◌, length, IfOk};
 ghost use Rattle.lots.specs.Limits.{horizon};
 ghost use Rattle.lots.specs.Tables.{ect as earliest_end, lot_at};
@@ -51,7 +51,8 @@ fn fork(trail: &mut Trail<'_>, lots: &mut [Lot], number: usize)
     requires inside { number < length lots.old }
     requires in_week { earliest_end (lot_at lots.old number) ≤ horizon }
     ensures same_len { trail.new.table_len ≡ trail.old.table_len }
-    ensures forked { unvisited trail.new ≡ left_of number lots.old ∷ right_of number lots.old ∷ unvisited trail.old }
+    ensures forked { unvisited trail.new
+        ≡ left_of number lots.old ∷ right_of number lots.old ∷ unvisited trail.old }
 {
     let lot = lots[number];
     lots[number] = a_minute_later(lot);
@@ -70,7 +71,8 @@ fn visit<R: Rule>(
 )
     requires standing { Standing capacity trail.old.table_len (lots.items ∷ unvisited trail.old) }
     ensures same_len { trail.new.table_len ≡ trail.old.table_len }
-    ensures advances { Advances (R.meaning rule.now) capacity (best_known best.old) (lots.items ∷ unvisited trail.old) (best_known best.new) (unvisited trail.new) }
+    ensures advances { Advances (R.meaning rule.now) capacity (best_known best.old)
+        (lots.items ∷ unvisited trail.old) (best_known best.new) (unvisited trail.new) }
 {
     let lots = lots.as_mut_slice();
     match look(rule, capacity, best, lots) {
@@ -83,7 +85,8 @@ fn visit<R: Rule>(
 // Visits the tree over a table, with its unvisited nodes in these cells.
 fn explore<R: Rule>(rule: &R, table: Table<'_>, budget: u32, cells: &mut [Lot]) -> Explored
     requires cells { trail_cells (length table.lots.now) ≤ length cells.old }
-    ensures answer { Explores (R.meaning rule.now) table.entry.capacity table.entry.lots.now budget result }
+    ensures answer { Explores (R.meaning rule.now) table.entry.capacity table.entry.lots.now budget
+        result }
 {
     let mut trail = Trail::over(cells, table.lots.len());
     let mut best = None;
@@ -103,8 +106,9 @@ fn explore<R: Rule>(rule: &R, table: Table<'_>, budget: u32, cells: &mut [Lot]) 
     }
 }
 
-// Searches for the best schedule of a table by a rule, and visits `budget` nodes at most. For n lots it asks for n × n + n
-// cells of a trail and n places for starts. A search leaves every cell blank, and writes the starts where there is a best.
+/// Searches for the best schedule of a table by a rule, and visits `budget` nodes at most. For n
+/// lots it asks for n × n + n cells of a trail and n places for starts. A search leaves every cell
+/// blank, and writes the starts where there is a best.
 pub fn solve<R: Rule>(
     rule: &R,
     table: Table<'_>,
@@ -112,7 +116,8 @@ pub fn solve<R: Rule>(
     trail: &mut [Lot],
     starts: &mut [u16],
 ) -> Result<Search, Refusal>
-    ensures exact { Solved (R.meaning rule.now) table.entry.capacity table.entry.lots.now budget trail.old trail.new starts.old starts.new result }
+    ensures exact { Solved (R.meaning rule.now) table.entry.capacity table.entry.lots.now budget
+        trail.old trail.new starts.old starts.new result }
     ensures short { IfOk result (λ a. nodes_of a ≤ 2 * ways table.entry.lots.now - 1) }
     ensures right { IfOk result (Right table.entry.capacity table.entry.lots.now starts.new) }
 {
@@ -184,7 +189,8 @@ mod tests {
             search(1, &[LOOSE, LOOSE], 5, &mut trail, &mut starts),
             Ok(best)
         );
-        // Cells and places past those that two lots take: all cells are blank, and no other place is written.
+        // Cells and places past those that two lots take: all cells are blank, and no other place
+        // is written.
         assert_eq!(rt; trail, [BLANK; 8]);
         assert_eq!(rt; starts, [0, 1, 7]);
     }

@@ -1,4 +1,4 @@
-// The load of a table whose lots each start at their est.
+//! The load of a table whose lots each start at their est.
 ghost use Rattle.std.specs.Prelude.{◌≡◌, ◌≤◌};
 ghost use Rattle.std.specs.List.{AllByRecursion};
 ghost use Rattle.lots.specs.Schedules.{spans, end as end_of};
@@ -8,7 +8,7 @@ ghost use Rattle.tree.specs.Tree.{earliest_starts as starts_of};
 
 use lots::{Lot, Table};
 
-// The minute at which the last lot is out, and 0 without lots.
+/// The minute at which the last lot is out, and 0 without lots.
 pub(crate) fn last_end(lots: &[Lot]) -> u32
     ensures answer { result ≡ end_of lots.now (starts_of lots.now) }
 {
@@ -28,12 +28,12 @@ fn runs_at(lot: &Lot, minute: u32) -> bool
     u32::from(lot.est) <= minute && minute < lot.ect()
 }
 
-// Whether the load is within the capacity at every minute.
+/// Whether the load is within the capacity at every minute.
 pub(crate) fn is_within(table: Table<'_>) -> bool
     ensures answer { LoadWithin table.entry.capacity table.entry.lots.now result }
 {
-    // Two loops and four levels, since both loops are left at the first overfull minute: hence the label. With the
-    // inner loop apart, its answer would be asked again at once.
+    // Two loops and four levels, since both loops are left at the first overfull minute: hence the
+    // label. With the inner loop apart, its answer would be asked again at once.
     'load: {
         for minute in first_start(table.lots)..last_end(table.lots) {
             let mut load = 0;

@@ -1,4 +1,4 @@
-// One node of the tree: what the best known and the rule leave of its lots, and what becomes of it.
+//! One node of the tree: what the best known and the rule leave of its lots, and what becomes of it.
 ghost use Rattle.std.specs.Prelude.{◌≡◌, ◌↔◌, IsTrue};
 ghost use Rattle.lots.specs.Schedules.{end as end_of};
 ghost use Rattle.lots.specs.Tables.{Fits, Lawful};
@@ -10,7 +10,7 @@ use arrayvec::ArrayVec;
 use lots::{Lot, MAX_LOTS, Table};
 use rule::{Rule, Verdict, settle};
 
-// The best schedule known: its starts by number, and when it ends.
+/// The best schedule known: its starts by number, and when it ends.
 #[derive(Drop)]
 pub(crate) struct Known {
     pub(crate) end: u16,
@@ -24,7 +24,8 @@ impl Known {
         ensures starts { result.starts.items ≡ starts_of table.entry.lots.now }
     {
         let mut starts = ArrayVec::new();
-        // A loop: `from_iter` asks for an allocator, and `extend` gives a `Result`, though the lots of a table always fit.
+        // A loop: `from_iter` asks for an allocator, and `extend` gives a `Result`, though the lots
+        // of a table always fit.
         for lot in table.lots {
             starts.push(lot.est);
         }
@@ -35,14 +36,14 @@ impl Known {
     }
 }
 
-// What becomes of a visited node.
+/// What becomes of a visited node.
 #[derive(Drop)]
 pub(crate) enum Fate {
-    // It is closed, and the best known stays.
+    /// It is closed, and the best known stays.
     Closed,
-    // It is closed, and this is the best known now.
+    /// It is closed, and this is the best known now.
     Found(Known),
-    // The two nodes below it are branched on the lot with this number.
+    /// The two nodes below it are branched on the lot with this number.
     Fork(usize),
 }
 
@@ -75,10 +76,11 @@ fn branch_lot(lots: &[Lot]) -> Option<usize>
     pick
 }
 
-// Looks at a node: writes what is left of its lots over them, and answers what becomes of it.
+/// Looks at a node: writes what is left of its lots over them, and answers what becomes of it.
 pub(crate) fn look<R: Rule>(rule: &R, capacity: u16, best: &Option<Known>, lots: &mut [Lot]) -> Fate
     requires lawful { Lawful capacity lots.old }
-    ensures answer { Seen (R.meaning rule.now) capacity (best_known best.now) lots.old lots.new result }
+    ensures answer { Seen (R.meaning rule.now) capacity (best_known best.now) lots.old lots.new
+        result }
 {
     if !cut_under(best, lots) {
         return Fate::Closed;

@@ -1,4 +1,4 @@
-// The trail of a search: its unvisited nodes, as a stack of tables in lent cells.
+//! The trail of a search: its unvisited nodes, as a stack of tables in lent cells.
 ghost use Rattle.std.specs.Prelude.{◌≡◌, ◌+◌, ◌*◌, ◌<◌, ◌≤◌, ◌↔◌, IsTrue, ◌∷◌, length, take, drop, MatchOption};
 ghost use Rattle.lots.specs.Limits.{max_lots};
 ghost use Rattle.tree.specs.Answer.{trail_cells};
@@ -7,8 +7,8 @@ ghost use Rattle.tree.specs.Private.Stack.{tables};
 use arrayvec::ArrayVec;
 use lots::{Lot, MAX_LOTS};
 
-// Tables of `table_len` lots each, one after another from the first cell on, and never more than fit in the cells that a
-// search asks for. The cells are lent, since nothing here allocates.
+/// Tables of `table_len` lots each, one after another from the first cell on, and never more than
+/// fit in the cells that a search asks for. The cells are lent, since nothing here allocates.
 #[derive(Drop)]
 pub(crate) struct Trail<'a> {
     cells: &'a mut [Lot],
@@ -20,7 +20,7 @@ pub(crate) struct Trail<'a> {
 }
 
 impl<'a> Trail<'a> {
-    // How many cells it takes for tables of so many lots.
+    /// How many cells it takes for tables of so many lots.
     pub(crate) fn cells_for(table_len: usize) -> usize
         requires few_lots { table_len ≤ max_lots }
         ensures answer { result ≡ trail_cells table_len }
@@ -28,7 +28,7 @@ impl<'a> Trail<'a> {
         table_len * table_len + table_len
     }
 
-    // No node, over these cells.
+    /// No node, over these cells.
     pub(crate) fn over(cells: &'a mut [Lot], table_len: usize) -> Trail<'a>
         requires few_lots { table_len ≤ max_lots }
         requires enough_cells { trail_cells table_len ≤ length cells.old }
@@ -47,12 +47,13 @@ impl<'a> Trail<'a> {
         self.depth == 0
     }
 
-    // Saves a node.
+    /// Saves a node.
     pub(crate) fn push(&mut self, table: &[Lot])
         requires room { self.old.depth ≤ self.old.table_len }
         requires len { length table.now ≡ self.old.table_len }
         ensures same_len { self.new.table_len ≡ self.old.table_len }
-        ensures pushed { tables self.new.table_len self.new.depth self.new.cells.now ≡ table.now ∷ tables self.old.table_len self.old.depth self.old.cells.now }
+        ensures pushed { tables self.new.table_len self.new.depth self.new.cells.now
+            ≡ table.now ∷ tables self.old.table_len self.old.depth self.old.cells.now }
     {
         let len = self.table_len;
         let at = self.depth * len;
@@ -64,17 +65,20 @@ impl<'a> Trail<'a> {
     // The node with this number, from 0 for the first that was saved.
     fn table(&self, number: usize) -> ArrayVec<Lot, MAX_LOTS>
         requires inside { number < self.now.depth }
-        ensures answer { result.items ≡ take self.now.table_len (drop (number * self.now.table_len) self.now.cells.now) }
+        ensures answer { result.items
+            ≡ take self.now.table_len (drop (number * self.now.table_len) self.now.cells.now) }
     {
         let at = number * self.table_len;
         // There is room for the lots of a table.
         ArrayVec::try_from(&self.cells[at..at + self.table_len]).unwrap()
     }
 
-    // Takes off the node that was saved last.
+    /// Takes off the node that was saved last.
     pub(crate) fn pop(&mut self) -> Option<ArrayVec<Lot, MAX_LOTS>>
         ensures same_len { self.new.table_len ≡ self.old.table_len }
-        ensures popped { MatchOption result ((self.old.depth ≡ 0) × (self.new.depth ≡ 0)) (λ table. tables self.old.table_len self.old.depth self.old.cells.now ≡ table.items ∷ tables self.new.table_len self.new.depth self.new.cells.now) }
+        ensures popped { MatchOption result ((self.old.depth ≡ 0) × (self.new.depth ≡ 0))
+            (λ table. tables self.old.table_len self.old.depth self.old.cells.now
+            ≡ table.items ∷ tables self.new.table_len self.new.depth self.new.cells.now) }
     {
         let number = self.depth.checked_sub(1)?;
         let table = self.table(number);
