@@ -6,12 +6,12 @@ use rule::{Both, Idle, Rule, Turned};
 use rules::{House, NotFirst, Overload, TimeTable};
 use std::alloc::{AllocError, Global};
 
-// The lots that a rule leaves, and none where it is dead.
+/// The lots that a rule leaves, and none where it is dead.
 pub type Left = Result<Option<Vec<Lot>>, AllocError>;
 
-// A rule with its definition.
+/// A rule with its definition.
 pub trait Defined: Rule {
-    // What it is defined to make of a lawful table.
+    /// What the rule is defined to make of a lawful table.
     fn defined(&self, heap: Global, capacity: u16, lots: &[Lot]) -> Left;
 }
 
@@ -36,7 +36,7 @@ fn trays<F: Fn(&Lot) -> bool>(lots: &[Lot], test: F) -> u64
     trays
 }
 
-// The overflow: what is left over in the minute before the latest end.
+/// The overflow, in tray-minutes: what is left over in the minute before the latest end.
 pub fn overflow(capacity: u16, lots: &[Lot]) -> u64 {
     let mut left = 0u64;
     for minute in earliest(lots)..latest(lots) {
@@ -51,7 +51,7 @@ pub fn overflow(capacity: u16, lots: &[Lot]) -> u64 {
     left
 }
 
-// How many minutes are the est, the ect or the lct of some lot.
+/// How many minutes are the est, the ect or the lct of some lot.
 pub fn points(lots: &[Lot]) -> usize {
     if lots.is_empty() {
         return 0;
@@ -151,12 +151,12 @@ fn bound_by(
     other: &Lot,
 ) -> Result<u16, AllocError> {
     let mut cut = Vec::new(heap);
-    for (at, some) in lots.iter().enumerate() {
-        if at != number && u32::from(lot.est) < earliest_end(some) && some.lct <= other.lct {
-            cut.push(*some)?;
+    for (at, each) in lots.iter().enumerate() {
+        if at != number && u32::from(lot.est) < earliest_end(each) && each.lct <= other.lct {
+            cut.push(*each)?;
         }
     }
-    let least = cut.iter().map(|some| earliest_end(some)).min().unwrap_or(0);
+    let least = cut.iter().map(|each| earliest_end(each)).min().unwrap_or(0);
     let first = earliest(cut.as_slice());
     let end = lot.est.saturating_add(lot.p).min(other.lct);
     if first < end {
@@ -164,7 +164,7 @@ fn bound_by(
             est: first,
             lct: end,
             p: end - first,
-            c: lot.c,
+            ..*lot
         })?;
     }
     if overflow(capacity, cut.as_slice()) > 0 {
@@ -256,14 +256,14 @@ impl Defined for House {
     }
 }
 
-// The sum of lst − est.
+/// The sum of lst − est over the lots, in minutes.
 pub fn slack(lots: &[Lot]) -> u32 {
     lots.iter().fold(0u32, |slack, lot| {
         slack.saturating_add(u32::from(latest_start(lot).saturating_sub(lot.est)))
     })
 }
 
-// The lots that are left once nothing changes any more, none where the rule is dead, and the number of applications.
+/// The lots that are left once nothing changes any more, none where the rule is dead; and the number of applications.
 pub fn settled<R: Defined>(
     heap: Global,
     rule: &R,
