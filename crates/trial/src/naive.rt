@@ -108,6 +108,11 @@ fn is_fixed_at(lot: &Lot, minute: u16) -> bool {
     latest_start(lot) <= minute && u32::from(minute) < earliest_end(lot)
 }
 
+// Whether the fixed parts take more trays at a minute than there are.
+fn is_overfull(capacity: u16, lots: &[Lot], minute: u16) -> bool {
+    trays(lots, |lot| is_fixed_at(lot, minute)) > u64::from(capacity)
+}
+
 // The minute after the last at which the lot, started at its est, does not fit beside the fixed parts of the others.
 fn time_table_bound(capacity: u16, lots: &[Lot], number: usize, lot: &Lot) -> u16 {
     let mut bound = 0;
@@ -126,11 +131,7 @@ fn time_table_bound(capacity: u16, lots: &[Lot], number: usize, lot: &Lot) -> u1
 
 impl Defined for TimeTable {
     fn defined(&self, heap: Global, capacity: u16, lots: &[Lot]) -> Left {
-        let dead = (earliest(lots)..latest(lots)).any(|minute| trays(
-            lots,
-            |lot| is_fixed_at(lot, minute),
-        ) > u64::from(capacity));
-        if dead {
+        if (earliest(lots)..latest(lots)).any(|minute| is_overfull(capacity, lots, minute)) {
             return Ok(None);
         }
         let mut bounds = Vec::new(heap);

@@ -40,15 +40,22 @@ pub fn end(lots: &[Lot], starts: &[u16]) -> u32 {
         .unwrap_or(0)
 }
 
+// Whether a run that starts then keeps within the window of the lot.
+fn is_in_window(lot: &Lot, start: u16) -> bool {
+    lot.est <= start && end_of(lot, start) <= u32::from(lot.lct)
+}
+
 /// Whether each lot runs within its window, and no minute has more trays in use than there are.
 pub fn is_schedule(capacity: u16, lots: &[Lot], starts: &[u16]) -> bool {
-    let in_windows = lots.iter().zip(starts).all(|(lot, start)| lot.est <= *start
-        && end_of(lot, *start) <= u32::from(lot.lct));
+    let in_windows = lots
+        .iter()
+        .zip(starts)
+        .all(|(lot, start)| is_in_window(lot, *start));
     let first = lots.iter().map(|lot| lot.est).min().unwrap_or(0);
+    let trays = u32::from(capacity);
     lots.len() <= starts.len()
         && in_windows
-        && (u32::from(first)..end(lots, starts)).all(|minute| load(lots, starts, minute)
-            <= u32::from(capacity))
+        && (u32::from(first)..end(lots, starts)).all(|minute| load(lots, starts, minute) <= trays)
 }
 
 // How many minutes a lot may start at.
