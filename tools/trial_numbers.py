@@ -1,42 +1,66 @@
 #!/usr/bin/env python3
-"""Computes what crates/trial must print, from its generator and the definitions alone.
+"""Computes what crates/trial must print, from the definitions of its generator, the rules and the search alone.
 
-usage: python3 tools/trial_numbers.py [TABLES]      about half a minute; to be compared with crates/trial/stdout
+usage: python3 tools/trial_numbers.py [--counts] [TABLES]
 
-Nothing here is taken from the planner. It also checks the definitions on each table: schedules kept, dead only
-without one, the best end the least of all ends, at most 2W - 1 nodes.
+It takes about half a minute. Without --counts it prints what crates/trial/stdout holds, and with it the other
+figures of docs/TRIAL.md.
+
+Nothing here is taken from the planner or from the generator's library. It also checks the definitions on each table:
+schedules kept, dead only without one, the best end the least of all ends, at most 2W - 1 nodes.
 """
 
+import argparse
 import collections
 import itertools
-import sys
+import math
 
 HORIZON = 10_080
 MOST_LOTS, MOST_CAPACITY, MOST_RUN, MOST_ROOM, MOST_AWAY = 4, 4, 5, 5, 7
 MOST_BUDGETS = 60
-SEED, MULTIPLIER, INCREMENT = 20_260_517, 6_364_136_223_846_793_005, 1_442_695_040_888_963_407
+SEED, STREAM = 42, 54
+# The first words of the generator's published demonstration, which has this seed and this stream.
+FIRST_WORDS = (0xA15C02B7, 0x7B47F409, 0xBA1D3330, 0x83D2F293, 0xBFA4784B, 0xCBED606E)
 
 
 class Random:
-    def __init__(self):
-        self.state = SEED
+    """PCG XSH RR 64/32: a congruential generator, of whose state a word is the upper part, xored and turned."""
 
-    def up_to(self, most):
-        self.state = (self.state * MULTIPLIER + INCREMENT) % 2**64
-        return (self.state >> 33) % (most + 1)
+    def __init__(self):
+        self.increment = 2 * STREAM + 1
+        self.state = SEED + self.increment
+        self.step()
+
+    def step(self):
+        self.state = (self.state * 6_364_136_223_846_793_005 + self.increment) % 2**64
+
+    def word(self):
+        mixed = ((self.state >> 18 ^ self.state) >> 27) % 2**32
+        turn = self.state >> 59
+        self.step()
+        return (mixed >> turn | mixed << 32 - turn) % 2**32
+
+    def between(self, least, most):
+        """As rand draws from a range: the upper half of word × ways, and where the lower half is so near its end that
+        the next word's could carry over, with that carry."""
+        ways = most - least + 1
+        drawn, rest = divmod(self.word() * ways, 2**32)
+        if rest > 2**32 - ways:
+            drawn += rest + self.word() * ways // 2**32 >= 2**32
+        return least + drawn
 
 
 def make_lot(random, place, capacity):
-    away = random.up_to(MOST_AWAY)
-    p = 1 + random.up_to(MOST_RUN - 1)
-    c = 1 + random.up_to(capacity - 1)
-    length = p + random.up_to(MOST_ROOM)
+    away = random.between(0, MOST_AWAY)
+    p = random.between(1, MOST_RUN)
+    c = random.between(1, capacity)
+    length = p + random.between(0, MOST_ROOM)
     est = (away, HORIZON // 2 + away, HORIZON - away - length)[place]
     return est, est + length, p, c
 
 
 def make_table(random, number):
-    capacity = 1 + random.up_to(MOST_CAPACITY - 1)
+    capacity = random.between(1, MOST_CAPACITY)
     place = number // (MOST_LOTS + 1) % 3
     return capacity, [make_lot(random, place, capacity) for _ in range(number % (MOST_LOTS + 1))]
 
@@ -167,7 +191,12 @@ def search(rule, capacity, lots):
 
 
 RULES = [idle, overload, time_table, not_first, turned(overload), turned(time_table), turned(not_first), house, turned(house)]
-SEARCHED = [idle, not_first, turned(not_first), house]
+SEARCHED = {"idle": idle, "not-first": not_first, "turned not-first": turned(not_first), "house": house}
+
+
+def ways_of(lots):
+    """W, the number of ways to give each lot a start in its window."""
+    return math.prod(lct - p - est + 1 for est, lct, p, _ in lots)
 
 
 def compare_rule(rule, capacity, lots, found):
@@ -178,29 +207,68 @@ def compare_rule(rule, capacity, lots, found):
 
 
 def compare_search(rule, capacity, lots, found):
-    """A whole search has 6, a budget below the count 2, one that is enough 3, and 4 or 1 are refused."""
+    """A whole search has 6, a budget below the count 2, one that is enough 3, and 4 or 1 are refused.
+
+    Answers how many comparisons there are, and how many nodes."""
     best, nodes = search(rule, capacity, lots)
-    ways = 1
-    for est, lct, p, _ in lots:
-        ways *= lct - p - est + 1
-    assert best == min((end_of(lots, s) for s in found), default=None) and nodes < 2 * ways
+    assert best == min((end_of(lots, s) for s in found), default=None) and nodes < 2 * ways_of(lots)
     below = sum(nodes <= MOST_BUDGETS or b in (1, nodes - 1) for b in range(1, nodes))
-    return 6 + 2 * below + 2 * 3 + (4 if lots else 1)
+    return 6 + 2 * below + 2 * 3 + (4 if lots else 1), nodes
+
+
+def verdict(lots, new):
+    return "dead" if new is None else "still" if new == lots else "moved"
+
+
+class Counts:
+    """What the tables come to, counted one by one."""
+
+    def __init__(self):
+        self.tables = self.schedules = self.without = self.most_ways = self.most_nodes = 0
+        self.of_narrowing = self.of_searches = 0
+        self.applied, self.tightened, self.long = (collections.Counter() for _ in range(3))
+
+    def add(self, capacity, lots):
+        found = schedules(capacity, lots)
+        assert not found or overflow(capacity, lots) == 0
+        self.tables += 1
+        self.schedules += len(found)
+        self.without += not found
+        self.most_ways = max(self.most_ways, ways_of(lots))
+        self.applied[verdict(lots, house(capacity, lots))] += 1
+        self.tightened[verdict(lots, settled(house, capacity, lots))] += 1
+        self.of_narrowing += 3 + sum(compare_rule(rule, capacity, lots, found) for rule in RULES)
+        for name, rule in SEARCHED.items():
+            comparisons, nodes = compare_search(rule, capacity, lots, found)
+            self.of_searches += comparisons
+            self.long[name] += nodes > MOST_BUDGETS
+            self.most_nodes = max(self.most_nodes, nodes)
+
+
+def show(verdicts):
+    return ", ".join(f"{verdicts[each]} {each}" for each in ("moved", "still", "dead"))
 
 
 def main():
-    tables = int(sys.argv[1]) if len(sys.argv) > 1 else 2_100
-    random, total, comparisons = Random(), 0, 0
-    for number in range(tables):
-        capacity, lots = make_table(random, number)
-        found = schedules(capacity, lots)
-        assert not found or overflow(capacity, lots) == 0
-        total += len(found)
-        comparisons += 3
-        comparisons += sum(compare_rule(rule, capacity, lots, found) for rule in RULES)
-        comparisons += sum(compare_search(rule, capacity, lots, found) for rule in SEARCHED)
-    print(f"{tables} tables with {total} schedules")
-    print(f"{comparisons} comparisons, 0 differences")
+    reader = argparse.ArgumentParser(description="Computes what crates/trial must print.")
+    reader.add_argument("--counts", action="store_true", help="print the other figures of docs/TRIAL.md")
+    reader.add_argument("tables", nargs="?", type=int, default=2_100)
+    asked = reader.parse_args()
+    random = Random()
+    assert tuple(random.word() for _ in FIRST_WORDS) == FIRST_WORDS
+    random, counts = Random(), Counts()
+    for number in range(asked.tables):
+        counts.add(*make_table(random, number))
+    if not asked.counts:
+        print(f"{counts.tables} tables with {counts.schedules} schedules")
+        print(f"{counts.of_narrowing + counts.of_searches} comparisons, 0 differences")
+        return
+    print(f"{counts.without} tables without a schedule, at most {counts.most_ways} ways")
+    print(f"one application of house: {show(counts.applied)}")
+    print(f"tighten by house: {show(counts.tightened)}")
+    print(f"comparisons: {counts.of_narrowing} of the overflow, rules and tighten, {counts.of_searches} of searches")
+    long = ", ".join(f"{count} by {name}" for name, count in counts.long.items())
+    print(f"searches of more than {MOST_BUDGETS} nodes: {long}; at most {counts.most_nodes} nodes")
 
 
 main()

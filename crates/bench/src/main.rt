@@ -15,15 +15,17 @@ use tree::{MAX_TRAIL, Search};
 
 mod tables;
 
+// The trays of the machine that is measured.
 const CAPACITY: u16 = 24;
 
 // How many lots are measured at a time.
 const COUNTS: [usize; 4] = [8, 16, 32, MAX_LOTS];
 
-// A search has one tray, and one more for each so many lots: so few that it is not over at its first leaf.
+// A search has one tray, and one more for each so many lots: so few that it has to branch.
 const LOTS_FOR_A_TRAY: u16 = 4;
 
-const APPLICATIONS: u32 = 200;
+// How many calls are measured, of which the mean is printed.
+const CALLS: u32 = 200;
 
 // The most nodes that a measured search visits.
 const BUDGET: u32 = 2_000;
@@ -64,7 +66,7 @@ struct Application<'a, R> {
 
 impl<R: Rule> Call for Application<'_, R> {
     fn make(&self, lots: &[Lot]) -> anyhow::Result<()> {
-        // Not on the heap, where time-table took up to twice as long.
+        // In an array: on the heap time-table takes up to twice as long.
         let mut work = ArrayVec::<Lot, MAX_LOTS>::try_from(lots)?;
         self.rule
             .apply(CAPACITY, &mut work)
@@ -97,10 +99,10 @@ fn plan_of(capacity: u16, lots: &[Lot]) -> anyhow::Result<Plan> {
 // The nanoseconds of one call on these lots, as the mean of many.
 fn nanos(rt: &HostRuntime, call: &dyn Call, lots: &[Lot]) -> anyhow::Result<u128> {
     let start = Instant::now(rt)?;
-    for _ in 0..APPLICATIONS {
+    for _ in 0..CALLS {
         call.make(lots)?;
     }
-    Ok(start.elapsed(rt)?.as_nanos() / u128::from(APPLICATIONS))
+    Ok(start.elapsed(rt)?.as_nanos() / u128::from(CALLS))
 }
 
 // One line for each number of lots: short windows, and windows over the week.

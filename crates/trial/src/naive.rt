@@ -6,12 +6,12 @@ use rule::{Both, Idle, Rule, Turned};
 use rules::{House, NotFirst, Overload, TimeTable};
 use std::alloc::{AllocError, Global};
 
-// The lots that a rule leaves, and none where it is dead.
+/// The lots that a rule leaves, and none where it is dead.
 pub type Left = Result<Option<Vec<Lot>>, AllocError>;
 
-// A rule with its definition.
+/// A rule with its definition.
 pub trait Defined: Rule {
-    // What it is defined to make of a lawful table.
+    /// What the rule is defined to make of a lawful table.
     fn defined(&self, heap: Global, capacity: u16, lots: &[Lot]) -> Left;
 }
 
@@ -36,7 +36,7 @@ fn trays<F: Fn(&Lot) -> bool>(lots: &[Lot], test: F) -> u64
     trays
 }
 
-// The overflow: what is left over in the minute before the latest end.
+/// The overflow, in tray-minutes: what is left over in the minute before the latest end.
 pub fn overflow(capacity: u16, lots: &[Lot]) -> u64 {
     let mut left = 0u64;
     for minute in earliest(lots)..latest(lots) {
@@ -51,7 +51,7 @@ pub fn overflow(capacity: u16, lots: &[Lot]) -> u64 {
     left
 }
 
-// How many minutes are the est, the ect or the lct of some lot.
+/// How many minutes are the est, the ect or the lct of some lot.
 pub fn points(lots: &[Lot]) -> usize {
     if lots.is_empty() {
         return 0;
@@ -108,6 +108,11 @@ fn is_fixed_at(lot: &Lot, minute: u16) -> bool {
     latest_start(lot) <= minute && u32::from(minute) < earliest_end(lot)
 }
 
+// Whether the fixed parts take more trays at a minute than there are.
+fn is_overfull(capacity: u16, lots: &[Lot], minute: u16) -> bool {
+    trays(lots, |lot| is_fixed_at(lot, minute)) > u64::from(capacity)
+}
+
 // The minute after the last at which the lot, started at its est, does not fit beside the fixed parts of the others.
 fn time_table_bound(capacity: u16, lots: &[Lot], number: usize, lot: &Lot) -> u16 {
     let mut bound = 0;
@@ -126,11 +131,7 @@ fn time_table_bound(capacity: u16, lots: &[Lot], number: usize, lot: &Lot) -> u1
 
 impl Defined for TimeTable {
     fn defined(&self, heap: Global, capacity: u16, lots: &[Lot]) -> Left {
-        let dead = (earliest(lots)..latest(lots)).any(|minute| trays(
-            lots,
-            |lot| is_fixed_at(lot, minute),
-        ) > u64::from(capacity));
-        if dead {
+        if (earliest(lots)..latest(lots)).any(|minute| is_overfull(capacity, lots, minute)) {
             return Ok(None);
         }
         let mut bounds = Vec::new(heap);
@@ -151,12 +152,12 @@ fn bound_by(
     other: &Lot,
 ) -> Result<u16, AllocError> {
     let mut cut = Vec::new(heap);
-    for (at, some) in lots.iter().enumerate() {
-        if at != number && u32::from(lot.est) < earliest_end(some) && some.lct <= other.lct {
-            cut.push(*some)?;
+    for (at, each) in lots.iter().enumerate() {
+        if at != number && u32::from(lot.est) < earliest_end(each) && each.lct <= other.lct {
+            cut.push(*each)?;
         }
     }
-    let least = cut.iter().map(|some| earliest_end(some)).min().unwrap_or(0);
+    let least = cut.iter().map(|each| earliest_end(each)).min().unwrap_or(0);
     let first = earliest(cut.as_slice());
     let end = lot.est.saturating_add(lot.p).min(other.lct);
     if first < end {
@@ -164,7 +165,7 @@ fn bound_by(
             est: first,
             lct: end,
             p: end - first,
-            c: lot.c,
+            ..*lot
         })?;
     }
     if overflow(capacity, cut.as_slice()) > 0 {
@@ -256,14 +257,14 @@ impl Defined for House {
     }
 }
 
-// The sum of lst − est.
+/// The sum of lst − est over the lots, in minutes.
 pub fn slack(lots: &[Lot]) -> u32 {
     lots.iter().fold(0u32, |slack, lot| {
         slack.saturating_add(u32::from(latest_start(lot).saturating_sub(lot.est)))
     })
 }
 
-// The lots that are left once nothing changes any more, none where the rule is dead, and the number of applications.
+/// The lots that are left once nothing changes any more, none where the rule is dead; and the number of applications.
 pub fn settled<R: Defined>(
     heap: Global,
     rule: &R,

@@ -73,7 +73,7 @@ fn compare_left(
     )
 }
 
-// Compares one application of the rule.
+/// Compares one application of the rule.
 pub fn compare_application<R: Defined>(
     heap: Global,
     tally: &mut Tally<'_>,
@@ -93,7 +93,7 @@ pub fn compare_application<R: Defined>(
     Ok(())
 }
 
-// A plan of the table.
+/// A plan that holds the lots of the sample.
 pub fn plan_of(sample: &Sample) -> anyhow::Result<Plan> {
     let mut plan = Plan::new();
     plan.open(sample.capacity)
@@ -105,7 +105,7 @@ pub fn plan_of(sample: &Sample) -> anyhow::Result<Plan> {
     Ok(plan)
 }
 
-// Compares tighten by the rule.
+/// Compares tighten by the rule.
 pub fn compare_tighten<R: Defined>(
     heap: Global,
     tally: &mut Tally<'_>,

@@ -5,19 +5,20 @@ use crate::tables::MOST_LOTS;
 use lots::Lot;
 use std::alloc::{AllocError, Global};
 
-// A start for each lot, by number, and 0 past the last.
+/// A start for each lot, by number, and 0 past the last.
 pub type Starts = [u16; MOST_LOTS];
 
-// The minute at which a lot is out.
+// The minute at which a lot with this start is out.
 fn end_of(lot: &Lot, start: u16) -> u32 {
     u32::from(start) + u32::from(lot.p)
 }
 
-// What a lot shows of itself is computed anew here and below: the lots' own methods are among what is tried.
+/// The ect of the lot. `Lot::ect` and `Lot::lst` are among what is tried, so neither is called.
 pub fn earliest_end(lot: &Lot) -> u32 {
     end_of(lot, lot.est)
 }
 
+/// The lst of the lot.
 pub fn latest_start(lot: &Lot) -> u16 {
     lot.lct.saturating_sub(lot.p)
 }
@@ -30,7 +31,7 @@ fn load(lots: &[Lot], starts: &[u16], minute: u32) -> u32 {
         .fold(0u32, |load, (lot, _)| load.saturating_add(u32::from(lot.c)))
 }
 
-// The minute at which the last lot is out.
+/// The minute at which the last lot is out, and 0 without lots.
 pub fn end(lots: &[Lot], starts: &[u16]) -> u32 {
     lots.iter()
         .zip(starts)
@@ -39,15 +40,22 @@ pub fn end(lots: &[Lot], starts: &[u16]) -> u32 {
         .unwrap_or(0)
 }
 
-// Whether each lot runs within its window, and no minute has more trays in use than there are.
+// Whether a run that starts then keeps within the window of the lot.
+fn is_in_window(lot: &Lot, start: u16) -> bool {
+    lot.est <= start && end_of(lot, start) <= u32::from(lot.lct)
+}
+
+/// Whether each lot runs within its window, and no minute has more trays in use than there are.
 pub fn is_schedule(capacity: u16, lots: &[Lot], starts: &[u16]) -> bool {
-    let in_windows = lots.iter().zip(starts).all(|(lot, start)| lot.est <= *start
-        && end_of(lot, *start) <= u32::from(lot.lct));
+    let in_windows = lots
+        .iter()
+        .zip(starts)
+        .all(|(lot, start)| is_in_window(lot, *start));
     let first = lots.iter().map(|lot| lot.est).min().unwrap_or(0);
+    let trays = u32::from(capacity);
     lots.len() <= starts.len()
         && in_windows
-        && (u32::from(first)..end(lots, starts)).all(|minute| load(lots, starts, minute)
-            <= u32::from(capacity))
+        && (u32::from(first)..end(lots, starts)).all(|minute| load(lots, starts, minute) <= trays)
 }
 
 // How many minutes a lot may start at.
@@ -57,7 +65,7 @@ fn choices(lot: &Lot) -> u64
     u64::from(latest_start(lot).saturating_sub(lot.est)) + 1
 }
 
-// In how many ways each lot can get a start: W.
+/// In how many ways each lot can get a start: W.
 pub fn ways(lots: &[Lot]) -> u64 {
     lots.iter()
         .fold(1u64, |ways, lot| ways.saturating_mul(choices(lot)))
@@ -76,7 +84,7 @@ fn starts_of(lots: &[Lot], way: u64) -> Starts {
     starts
 }
 
-// Every schedule, in order.
+/// Every schedule, in the order of the ways.
 pub fn schedules(heap: Global, capacity: u16, lots: &[Lot]) -> Result<Vec<Starts>, AllocError> {
     let mut found = Vec::new(heap);
     for way in 0..ways(lots) {

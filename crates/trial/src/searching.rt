@@ -13,9 +13,9 @@ use std::alloc::{AllocError, Global};
 use std::io;
 use tree::Search;
 
-// A search that visits more nodes is not tried with each budget below its count, but with the least and the greatest.
+// A search that visits more nodes is tried with only the least and the greatest budget below its count.
 const MOST_BUDGETS: u32 = 60;
-// What the lent memory holds before a search.
+// What each lent cell holds before a search.
 const OLD_LOT: Lot = Lot {
     est: 1,
     lct: 9,
@@ -23,8 +23,9 @@ const OLD_LOT: Lot = Lot {
     c: 3,
 };
 
+// What each lent place holds before a search.
 const OLD_START: u16 = u16::MAX;
-// How much more is lent than needed.
+// How many cells, and how many places, are lent past those that are needed.
 const MORE: usize = 3;
 
 // What is lent to a search, and how many nodes it may visit.
@@ -221,7 +222,7 @@ fn least_for(count: usize) -> Lent {
     }
 }
 
-// Compares searches by the rule.
+/// Compares searches by the rule.
 pub fn compare_solve<R: Defined>(
     heap: Global,
     tally: &mut Tally<'_>,

@@ -1,21 +1,22 @@
 // The tables that are tried.
-ghost use Rattle.std.specs.Prelude.{◌+◌, ◌≤◌};
+ghost use Rattle.std.specs.Prelude.{◌≤◌};
 
-use crate::random::Random;
 use crate::schedules::{Starts, schedules};
 use lots::{HORIZON, Lot};
+use rand::RngExt;
+use rand_pcg::Pcg32;
 use std::alloc::{AllocError, Global};
 use std::fmt;
 
-// Each number of lots as often as the others, from none on.
+/// The most lots of a table. Each number from none on comes as often as the others.
 pub const MOST_LOTS: usize = 4;
 
 const MOST_CAPACITY: u16 = 4;
-
+// The longest run, in minutes.
 const MOST_RUN: u16 = 5;
-// The most that a window is longer than its run.
+// The most minutes that a window is longer than its run.
 const MOST_ROOM: u16 = 5;
-// The most that a window begins, or at the end of the week ends, away from where the table is.
+// The most minutes that a window begins, or at the end of the week ends, away from where the table is.
 const MOST_AWAY: u16 = 7;
 
 const MIDWEEK: u16 = HORIZON / 2;
@@ -39,11 +40,13 @@ impl Place {
     }
 }
 
-fn lot(random: &mut Random, place: Place, capacity: u16) -> Lot {
-    let away = random.up_to(MOST_AWAY);
-    let p = 1 + random.up_to(MOST_RUN - 1);
-    let c = random.up_to(capacity.saturating_sub(1)).saturating_add(1);
-    let length = p + random.up_to(MOST_ROOM);
+fn lot(random: &mut Pcg32, place: Place, capacity: u16) -> Lot
+    requires tray { 1 ≤ capacity }
+{
+    let away = random.random_range(0..=MOST_AWAY);
+    let p = random.random_range(1..=MOST_RUN);
+    let c = random.random_range(1..=capacity);
+    let length = p + random.random_range(0..=MOST_ROOM);
     let est = match place {
         Place::Start => away,
         Place::Middle => MIDWEEK + away,
@@ -57,7 +60,7 @@ fn lot(random: &mut Random, place: Place, capacity: u16) -> Lot {
     }
 }
 
-// A table, with every schedule of it.
+/// A table, with every schedule of it.
 #[derive(Drop)]
 pub struct Sample {
     pub capacity: u16,
@@ -66,9 +69,9 @@ pub struct Sample {
 }
 
 impl Sample {
-    // The sample of this number.
-    pub fn random(heap: Global, random: &mut Random, number: usize) -> Result<Sample, AllocError> {
-        let capacity = random.up_to(MOST_CAPACITY - 1).saturating_add(1);
+    /// The sample of this number.
+    pub fn random(heap: Global, random: &mut Pcg32, number: usize) -> Result<Sample, AllocError> {
+        let capacity = random.random_range(1..=MOST_CAPACITY);
         let mut lots = Vec::new(heap);
         for _ in 0..number % (MOST_LOTS + 1) {
             lots.push(lot(random, Place::of(number), capacity))?;

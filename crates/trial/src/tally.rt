@@ -3,13 +3,14 @@
 use crate::tables::Sample;
 use std::io;
 
-// A sample, and the rule of which something is compared on it.
+/// A sample, and the rule of which something is compared on it.
 #[derive(Clone, Copy)]
 pub struct Case<'a> {
     pub sample: &'a Sample,
     pub rule: &'a str,
 }
 
+/// Counts comparisons and differences, and prints each difference.
 #[derive(Drop)]
 pub struct Tally<'a> {
     rt: &'a HostRuntime,
@@ -18,6 +19,7 @@ pub struct Tally<'a> {
 }
 
 impl<'a> Tally<'a> {
+    /// A tally of nothing yet.
     pub fn new(rt: &'a HostRuntime) -> Tally<'a> {
         Tally {
             rt,
@@ -26,7 +28,7 @@ impl<'a> Tally<'a> {
         }
     }
 
-    // Counts a comparison, and prints it where it does not hold.
+    /// Counts a comparison, and prints it where it does not hold.
     pub fn compare(&mut self, case: Case<'_>, what: &str, holds: bool) -> io::Result<()> {
         self.comparisons = self.comparisons.saturating_add(1);
         if holds {

@@ -5,14 +5,14 @@ use crate::schedules::{earliest_end, end, is_schedule, latest_start, ways};
 use lots::Lot;
 use std::alloc::{AllocError, Global};
 
-// A start for each lot, by number, and the minute at which the last is out.
+/// A start for each lot, by number, and the minute at which the last is out.
 #[derive(Drop)]
 pub struct Schedule {
     pub end: u16,
     pub starts: Vec<u16>,
 }
 
-// The best schedule of a table, and how many nodes were visited.
+/// The best schedule of a table, and how many nodes were visited.
 #[derive(Drop)]
 pub struct Visited {
     pub best: Option<Schedule>,
@@ -122,7 +122,7 @@ fn look<R: Defined>(
     }
 }
 
-// Visits the whole tree over a table.
+/// Visits the whole tree over a table.
 pub fn visit<R: Defined>(
     heap: Global,
     rule: &R,
