@@ -3,7 +3,10 @@ use Rattle.std.specs.Prelude.{ℕ, Bool, false, if◌then◌else◌, ◌||◌, L
 use Rattle.lots.specs.declared.Lot.{Lot}
 use Rattle.rule.specs.Meanings.{Meaning, dead, to}
 use Rattle.rules.specs.Chosen.{chosen, overfull}
-use Rattle.rules.specs.Private.Ends.{ends_of}
+
+-- the latest ends of the lots
+abbrev pub ends_of : List Lot → List ℕ
+ends_of T = map (λ x. x.lct) T
 
 -- the lots that must be out by the minute t
 abbrev pub due : ℕ → List Lot → List Lot
@@ -17,6 +20,3 @@ some_overfull C T (t ∷ ts) = overfull C (due t T) || some_overfull C T ts
 -- dead where that holds of the latest end of some lot; else the table stays as it is
 abbrev pub overload : Meaning
 overload C T = if some_overfull C T (ends_of T) then dead else to T
-
-abbrev pub ends_of : List Lot → List ℕ
-ends_of T = map (λ x. x.lct) T
