@@ -5,7 +5,7 @@ use Rattle.std.specs.List.{AllByRecursion}
 use Rattle.lots.specs.Limits.{horizon}
 use Rattle.lots.specs.Tables.{ect, lot_at, LawfulLot, Lawful}
 use Rattle.lots.specs.declared.Lot.{Lot}
-use Rattle.rules.specs.NotFirst.{in_cut, cut, least_ect}
+use Rattle.rules.specs.NotFirst.{is_in_cut, cut, least_ect}
 use Rattle.rules.specs.Laws.ChosenLots.{chosen_each}
 
 -- the least ect of a cut lies in the week
@@ -16,4 +16,4 @@ module _ (C : ℕ) where
   least_in_week (x ∷ (y ∷ ys)) a = omega (arith, a.0.has_time, a.0.in_week)
 
   pub cut_least : (T : List Lot) → Lawful C T → (i t : ℕ) → least_ect (cut T i t) ≤ horizon
-  cut_least T ok i t = least_in_week (cut T i t) (chosen_each (in_cut i (lot_at T i).est t) (LawfulLot C) 0 T ok.each)
+  cut_least T ok i t = least_in_week (cut T i t) (chosen_each (is_in_cut i (lot_at T i).est t) (LawfulLot C) 0 T ok.each)

@@ -16,8 +16,8 @@ use Rattle.rule.specs.Meanings.{Applied, dead, IsVerdictOn}
 use Rattle.rule.specs.Raised.{raise}
 use Rattle.rule.specs.declared.Verdict.{Verdict}
 use Rattle.rule.specs.declared.Verdict.TheVariants.{Dead}
-use Rattle.rules.specs.TimeTable.{fixed, fixed_load, fixed_others, some_below, after_last, bound_of, time_table}
-use Rattle.rules.specs.Private.Loads.{blocked_under}
+use Rattle.rules.specs.TimeTable.{fixed_trays, fixed_load, fixed_load_of_others, some_below, some_passes, after_last, bound_of, time_table}
+use Rattle.rules.specs.Private.Loads.{is_blocked_under}
 use Rattle.rules.specs.declared.time_table.Loads.{Loads}
 use Rattle.rules.proofs.FixedParts.{fixed_split}
 use Rattle.rules.specs.Laws.Searches.{some_none}
@@ -25,13 +25,13 @@ use Rattle.rules.proofs.Searches.{some_here, after_last_none, after_last_same}
 use Rattle.rules.proofs.Raised.{raise_same, applied_from_verdict}
 
 -- the load is a sum over the lots
-fixed_sum : (T : List Lot) (t : ℕ) → fixed_load T t ≡ sum_by (λ x. fixed x t) T
-fixed_sum T t = is_sum_by (λ xs. fixed_load xs t) (λ x. fixed x t) refl (λ x xs. refl) T
+fixed_sum : (T : List Lot) (t : ℕ) → fixed_load T t ≡ sum_by (λ x. fixed_trays x t) T
+fixed_sum T t = is_sum_by (λ xs. fixed_load xs t) (λ x. fixed_trays x t) refl (λ x xs. refl) T
 
-pub fixed_more : (T : List Lot) (i t : ℕ) → i < length T → fixed_load (take (i + 1) T) t ≡ fixed_load (take i T) t + fixed (lot_at T i) t
-fixed_more T i t h = omega (arith, fixed_sum (take (i + 1) T) t, fixed_sum (take i T) t, sum_by_more (λ x. fixed x t) T i (lot_at [] 0) h)
+pub fixed_more : (T : List Lot) (i t : ℕ) → i < length T → fixed_load (take (i + 1) T) t ≡ fixed_load (take i T) t + fixed_trays (lot_at T i) t
+fixed_more T i t h = omega (arith, fixed_sum (take (i + 1) T) t, fixed_sum (take i T) t, sum_by_more (λ x. fixed_trays x t) T i (lot_at [] 0) h)
 
-fixed_le : (x : Lot) (t : ℕ) → fixed x t ≤ x.c
+fixed_le : (x : Lot) (t : ℕ) → fixed_trays x t ≤ x.c
 fixed_le x t = grind (arith, nat_tests)
 
 fixed_few : (T : List Lot) (t : ℕ) → AllByRecursion (LawfulLot max_capacity) T → fixed_load T t ≤ max_capacity * length T
@@ -54,11 +54,11 @@ module _ (s : Table) where
   loads_few t = omega (arith, fixed_few s.lots.now t lawful.each, lots_few)
 
   pub loads_few_so_far : (i t : ℕ) → fixed_load (take i s.lots.now) t ≤ max_capacity * max_lots
-  loads_few_so_far i t = omega (arith, fixed_sum (take i s.lots.now) t, fixed_sum s.lots.now t, sum_by-take-le (λ x. fixed x t) s.lots.now i, loads_few t)
+  loads_few_so_far i t = omega (arith, fixed_sum (take i s.lots.now) t, fixed_sum s.lots.now t, sum_by-take-le (λ x. fixed_trays x t) s.lots.now i, loads_few t)
 
   -- whether some load passes the capacity
   abbrev pub passes : Bool
-  passes = some_below (λ t. ltb s.capacity (fixed_load s.lots.now t)) horizon
+  passes = some_passes s.capacity s.lots.now
 
 -- what is read off the loads of a table
 module _ (l : Loads) where
@@ -73,12 +73,12 @@ module _ (l : Loads) where
   passes_read minutes false none = sym (some_none _ _ (λ t h. le-ltb _ _ (omega (arith, none t (omega arith), l.loaded t h))))
 
   -- the bound by the loads of all is the bound by those of the others
-  pub bound_read : (j : ℕ) → j < length l.table.lots.now → after_last (blocked_under l.by_minute l.table.capacity (lot_at l.table.lots.now j)) (ect (lot_at l.table.lots.now j)) ≡ bound_of l.table.capacity l.table.lots.now j
+  pub bound_read : (j : ℕ) → j < length l.table.lots.now → after_last (is_blocked_under l (lot_at l.table.lots.now j)) (ect (lot_at l.table.lots.now j)) ≡ bound_of l.table.capacity l.table.lots.now j
   bound_read j h =
       let x = lot_at l.table.lots.now j in
       let ok = lot_lawful l.table j h in
       after_last_same _ _ (ect x) (λ t going.
-      let others : x.c + get_or l.by_minute t 0 - fixed x t ≡ x.c + fixed_others j l.table.lots.now t = omega (arith, l.loaded t (omega (arith, ok.has_time, ok.in_week)), fixed_split j l.table.lots.now t h) in
+      let others : x.c + get_or l.by_minute t 0 - fixed_trays x t ≡ x.c + fixed_load_of_others j l.table.lots.now t = omega (arith, l.loaded t (omega (arith, ok.has_time, ok.in_week)), fixed_split j l.table.lots.now t h) in
       ap (λ n. leb x.est t && ltb l.table.capacity n) others)
 
 -- r is the last minute below n of which a test holds, if there is one
