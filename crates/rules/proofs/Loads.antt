@@ -19,9 +19,8 @@ use Rattle.rule.specs.declared.Verdict.TheVariants.{Dead}
 use Rattle.rules.specs.TimeTable.{fixed_trays, fixed_load, fixed_load_of_others, some_below, some_passes, after_last, bound_of, time_table}
 use Rattle.rules.specs.Private.Loads.{is_blocked_under}
 use Rattle.rules.specs.declared.time_table.Loads.{Loads}
-use Rattle.rules.proofs.FixedParts.{fixed_split}
 use Rattle.rules.specs.Laws.Searches.{some_none}
-use Rattle.rules.proofs.Searches.{some_here, after_last_none, after_last_same}
+use Rattle.rules.proofs.Searches.{some_here, after_last_same}
 use Rattle.rules.proofs.Raised.{raise_same, applied_from_verdict}
 
 -- the load is a sum over the lots
@@ -37,6 +36,12 @@ fixed_le x t = grind (arith, nat_tests)
 fixed_few : (T : List Lot) (t : ℕ) → AllByRecursion (LawfulLot max_capacity) T → fixed_load T t ≤ max_capacity * length T
 fixed_few [] t ok = omega arith
 fixed_few (x ∷ xs) t ok = omega (arith, fixed_le x t, ok.0.has_trays, fixed_few xs t ok.1)
+
+-- the fixed parts of all are those of one and of the others
+pub fixed_split : (j : ℕ) (T : List Lot) (t : ℕ) → j < length T → fixed_load T t ≡ fixed_trays (lot_at T j) t + fixed_load_of_others j T t
+fixed_split j [] t h = absurd (omega arith)
+fixed_split zero (x ∷ xs) t h = refl
+fixed_split (suc j) (x ∷ xs) t h = omega (arith, fixed_split j xs t (omega arith))
 
 -- what is known of the lots of a table
 module _ (s : Table) where
@@ -80,23 +85,6 @@ module _ (l : Loads) where
       after_last_same _ _ (ect x) (λ t going.
       let others : x.c + get_or l.by_minute t 0 - fixed_trays x t ≡ x.c + fixed_load_of_others j l.table.lots.now t = omega (arith, l.loaded t (omega (arith, ok.has_time, ok.in_week)), fixed_split j l.table.lots.now t h) in
       ap (λ n. leb x.est t && ltb l.table.capacity n) others)
-
--- r is the last minute below n of which a test holds, if there is one
-abbrev pub IsLastBelow : (ℕ → Bool) → ℕ → Option ℕ → Type 0
-IsLastBelow f n r = MatchOption r ((t : ℕ) → t < n → f t ≡ false) (λ m. (m < n) × (f m ≡ true) × ((t : ℕ) → m < t → t < n → f t ≡ false))
-
-after_last_at : (f : ℕ → Bool) (n m : ℕ) → m < n → f m ≡ true → ((t : ℕ) → m < t → t < n → f t ≡ false) → m + 1 ≡ after_last f n
-unfolding after_last
-after_last_at f zero m h here after = absurd (omega arith)
-after_last_at f (suc n) m h here after = elim (cases_order m n) [
-  | inl same ↦ omega (arith, cond-true (f n) (suc n) (after_last f n) (subst (λ k. f k ≡ true) same here))
-  | inr (inl less) ↦ omega (arith, cond-false (f n) (suc n) (after_last f n) (after n less (omega arith)), after_last_at f n m less here (λ t l k. after t l (omega arith)))
-  | inr (inr more) ↦ absurd (omega arith)
-]
-
-pub after_last_found : (f : ℕ → Bool) (n : ℕ) (r : Option ℕ) (bound : ℕ) → IsLastBelow f n r → MatchOption r (bound ≡ 0) (λ m. bound ≡ m + 1) → bound ≡ after_last f n
-after_last_found f n None bound none is = is ∙ sym (after_last_none f n none)
-after_last_found f n (Some m) bound last is = is ∙ after_last_at f n m last.0 last.1 last.2
 
 -- the rule at the capacity C and the lots T: the loads are of the table s, which is the table t of these
 module _ (C : ℕ) (T : List Lot) (s t : Table) (same : s ≡ t) (is : (t.capacity ≡ C) × (t.lots.now ≡ T) × Lawful C T) where

@@ -6,7 +6,8 @@ use Rattle.elastic.specs.Profile.{overflow}
 -- those of which the test holds, in their order; the first has the number k
 abbrev pub chosen_lots : (ℕ → Lot → Bool) → ℕ → List Lot → List Lot
 chosen_lots test k [] = []
-chosen_lots test k (x ∷ xs) = if test k x then x ∷ chosen_lots test (suc k) xs else chosen_lots test (suc k) xs
+chosen_lots test k (x ∷ xs) =
+    if test k x then x ∷ chosen_lots test (suc k) xs else chosen_lots test (suc k) xs
 
 -- whether they have more work than fits: overflow above 0
 abbrev pub is_overfull : ℕ → List Lot → Bool

@@ -1,4 +1,5 @@
--- The rule not-first: a lot that cannot start before some others have ended starts after them.
+-- The rule not-first: a lot that cannot start before one of some others has ended starts at their least ect
+-- or later.
 use Rattle.std.specs.Prelude.{ℕ, zero, suc, min, max, Bool, if◌then◌else◌, not, ◌&&◌, List, [], ◌∷◌, ◌++◌, length, ◌==◌, nat_le, nat_lt}
 use Rattle.lots.specs.Tables.{ect, lot_at}
 use Rattle.lots.specs.declared.Lot.{Lot}
@@ -21,8 +22,8 @@ least_ect [] = 0
 least_ect (x ∷ []) = ect x
 least_ect (x ∷ (y ∷ ys)) = min (ect x) (least_ect (y ∷ ys))
 
--- the cut up to t, and the stand-in of i: a lot that keeps the trays of i from the earliest est of the cut until
--- the ect of i, or until t where that is earlier
+-- the cut up to t, and the stand-in of i: a lot that keeps the trays of i from the earliest est of the cut
+-- until the ect of i, or until t where that is earlier
 abbrev pub cut_with_stand_in : List Lot → ℕ → ℕ → List Lot
 cut_with_stand_in T i t = cut T i t ++ stand_in (lot_at T i).c (min (ect (lot_at T i)) t) (cut T i t)
 

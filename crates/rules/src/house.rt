@@ -13,7 +13,7 @@ type Pile = Both<
 >;
 
 /// The house pile as a rule: overload, time-table, not-first, turned time-table and turned
-/// not-first, in this order (docs/RULES.md, "The house pile").
+/// not-first, in this order (docs/RULES.md, "Piles").
 #[derive(Clone, Copy, Debug)]
 pub struct House {
     pile: Pile,

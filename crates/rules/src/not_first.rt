@@ -1,4 +1,5 @@
-//! The rule not-first: a lot that cannot start before some others have ended starts after them.
+//! The rule not-first: a lot that cannot start before one of some others has ended starts at their
+//! least ect or later.
 ghost use Rattle.std.specs.Prelude.{◌≡◌, ℕ, ◌<◌, length, slice_index};
 ghost use Rattle.elastic.specs.Profile.{has};
 ghost use Rattle.rules.specs.Private.Ends.{end_minutes, Lowest, DistinctEnds};

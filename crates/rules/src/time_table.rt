@@ -87,8 +87,8 @@ impl<'a> Loads<'a> {
 }
 
 /// The rule time-table: each lot starts after its last minute, before its ect, at which it does not
-/// fit beside the fixed parts of the others. Dead where fixed parts pass the capacity (docs/RULES.md,
-/// "Time-table").
+/// fit beside the fixed parts of the others. Dead where the fixed parts of one minute pass the
+/// capacity (docs/RULES.md, "Time-table").
 #[derive(Clone, Copy, Default, Debug)]
 pub struct TimeTable;
 

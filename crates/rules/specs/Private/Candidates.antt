@@ -1,4 +1,4 @@
--- A lot of a table, of which not-first asks whether it can start before some others have ended.
+-- A lot of a table, of which not-first asks before which others it can start.
 use Rattle.std.specs.Prelude.{ℕ, Bool, List}
 use Rattle.lots.specs.Tables.{lot_at}
 use Rattle.lots.specs.declared.Lot.{Lot}

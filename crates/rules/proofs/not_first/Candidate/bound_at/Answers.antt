@@ -2,7 +2,7 @@ use Rattle.std.proofs.Common.{◌≡◌, min, sym, ap, ◌∙◌, arith}
 use Rattle.lots.specs.Tables.{ect, lot_at}
 use Rattle.lots.specs.declared.Lot.{Lot}
 use Rattle.rules.specs.NotFirst.{least_ect}
-use Rattle.rules.proofs.Cuts.{cut_least}
+use Rattle.rules.proofs.Least.{cut_least}
 use Rattle.rules.proofs.GrowingCuts.{left_with_stand_in, none_left, some_left}
 use Rattle.rules.proofs.not_first.Candidate.bound_at.Goals as goal
 
