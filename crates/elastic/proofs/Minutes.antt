@@ -16,7 +16,7 @@ abbrev pub rest : (ℕ → ℕ) → List Lot → ℕ → ℕ
 rest U Ω zero = 0
 rest U Ω (suc t) = (rest U Ω t + creq Ω t) - min (available Ω t) (U t)
 
--- those that can where c of C are kept until m
+-- the trays that can be in use at t where c of C are kept until m
 abbrev pub usable : ℕ → ℕ → ℕ → ℕ → ℕ
 usable C c m t = if ltb t m then C - c else C
 
@@ -79,54 +79,54 @@ latest_push : (Ω : List Lot) (x : Lot) → latest Ω ≤ latest (Ω ++ (x ∷ [
 latest_push [] x = omega arith
 latest_push (y ∷ ys) x = omega (arith, latest_push ys x)
 
--- a run that keeps trays from the earliest est on leaves as much over as fewer trays until its end
+-- a stand-in leaves as much over as fewer trays until its end
 module _ (C c m : ℕ) (fits : c ≤ C) (Ω : List Lot) where
-  none_kept : m ≤ earliest Ω → (t : ℕ) → rest (λ u. C) Ω t ≡ rest (usable C c m) Ω t
-  none_kept early zero = refl
-  none_kept early (suc t) = elim (cases_lt t m) [
+  rest-no_stand_in : m ≤ earliest Ω → (t : ℕ) → rest (λ u. C) Ω t ≡ rest (usable C c m) Ω t
+  rest-no_stand_in early zero = refl
+  rest-no_stand_in early (suc t) = elim (cases_lt t m) [
     | inl h ↦ omega (arith, rest_early (λ u. C) Ω (suc t) (omega arith), rest_early (usable C c m) Ω (suc t) (omega arith))
-    | inr h ↦ omega (arith, none_kept early t, usable_after C c m t h)
+    | inr h ↦ omega (arith, rest-no_stand_in early t, usable_after C c m t h)
   ]
 
   module _ (later : earliest Ω < m) where
-    open_run : (t : ℕ) → available (Ω ++ (stand_in_lot c m Ω ∷ [])) t ≡ available Ω t + (if spans (earliest Ω) m t then c else 0)
-    open_run t = available_between t Ω [] (stand_in_lot c m Ω) ∙ ap (λ xs. available xs t + (if spans (earliest Ω) m t then c else 0)) (append-nil Ω)
+    available-stand_in : (t : ℕ) → available (Ω ++ (stand_in_lot c m Ω ∷ [])) t ≡ available Ω t + (if spans (earliest Ω) m t then c else 0)
+    available-stand_in t = available_between t Ω [] (stand_in_lot c m Ω) ∙ ap (λ xs. available xs t + (if spans (earliest Ω) m t then c else 0)) (append-nil Ω)
 
-    due_run : (t : ℕ) → creq (Ω ++ (stand_in_lot c m Ω ∷ [])) t ≡ creq Ω t + (if spans (earliest Ω) m t then c else 0)
-    due_run t =
+    creq-stand_in : (t : ℕ) → creq (Ω ++ (stand_in_lot c m Ω ∷ [])) t ≡ creq Ω t + (if spans (earliest Ω) m t then c else 0)
+    creq-stand_in t =
         let end : earliest Ω + (m - earliest Ω) ≡ m = omega arith in
         creq_between t Ω [] (stand_in_lot c m Ω)
         ∙ ap (λ xs. creq xs t + (if spans (earliest Ω) (ect (stand_in_lot c m Ω)) t then c else 0)) (append-nil Ω)
         ∙ ap (λ n. creq Ω t + (if spans (earliest Ω) n t then c else 0)) end
 
-    some_kept : (t : ℕ) → rest (λ u. C) (Ω ++ (stand_in_lot c m Ω ∷ [])) t ≡ rest (usable C c m) Ω t
-    some_kept zero = refl
-    some_kept (suc t) = elim (cases_lt t (earliest Ω)) [
+    rest-stand_in : (t : ℕ) → rest (λ u. C) (Ω ++ (stand_in_lot c m Ω ∷ [])) t ≡ rest (usable C c m) Ω t
+    rest-stand_in zero = refl
+    rest-stand_in (suc t) = elim (cases_lt t (earliest Ω)) [
       | inl h ↦
           omega (
             arith,
-            some_kept t,
+            rest-stand_in t,
             rest_early (usable C c m) Ω t (omega arith),
             rest_early (usable C c m) Ω (suc t) h,
-            due_run t,
+            creq-stand_in t,
             creq_early Ω t h,
             spans_out (earliest Ω) m c t h,
           )
       | inr g ↦ elim (cases_lt t m) [
-        | inl h ↦ omega (arith, some_kept t, due_run t, open_run t, spans_in (earliest Ω) m c t g h, usable_before C c m t h, fits)
-        | inr h ↦ omega (arith, some_kept t, due_run t, open_run t, spans_past (earliest Ω) m c t h, usable_after C c m t h)
+        | inl h ↦ omega (arith, rest-stand_in t, creq-stand_in t, available-stand_in t, spans_in (earliest Ω) m c t g h, usable_before C c m t h, fits)
+        | inr h ↦ omega (arith, rest-stand_in t, creq-stand_in t, available-stand_in t, spans_past (earliest Ω) m c t h, usable_after C c m t h)
       ]
     ]
 
-  kept_by : Fits Ω → (b : Bool) → leb m (earliest Ω) ≡ b → overflow C (Ω ++ (if b then [] else stand_in_lot c m Ω ∷ [])) ≡ rest (usable C c m) Ω (latest Ω)
-  kept_by h true e =
-      ap (overflow C) (append-nil Ω) ∙ overflow_rest C Ω h ∙ none_kept (leb-true m (earliest Ω) e) (latest Ω)
-  kept_by h false e =
+  overflow-stand_in_by : Fits Ω → (b : Bool) → leb m (earliest Ω) ≡ b → overflow C (Ω ++ (if b then [] else stand_in_lot c m Ω ∷ [])) ≡ rest (usable C c m) Ω (latest Ω)
+  overflow-stand_in_by h true e =
+      ap (overflow C) (append-nil Ω) ∙ overflow_rest C Ω h ∙ rest-no_stand_in (leb-true m (earliest Ω) e) (latest Ω)
+  overflow-stand_in_by h false e =
       let later = leb-false m (earliest Ω) e in
       let ends : Fits (Ω ++ (stand_in_lot c m Ω ∷ [])) = All-append (λ x. ect x ≤ x.lct) Ω (stand_in_lot c m Ω ∷ []) h (omega arith, tt) in
       let most = latest (Ω ++ (stand_in_lot c m Ω ∷ [])) in
       let past : most ≡ latest Ω + (most - latest Ω) = omega (arith, latest_push Ω (stand_in_lot c m Ω)) in
-      overflow_rest C (Ω ++ (stand_in_lot c m Ω ∷ [])) ends ∙ some_kept later most ∙ ap (rest (usable C c m) Ω) past ∙ rest_late (usable C c m) Ω h (most - latest Ω)
+      overflow_rest C (Ω ++ (stand_in_lot c m Ω ∷ [])) ends ∙ rest-stand_in later most ∙ ap (rest (usable C c m) Ω) past ∙ rest_late (usable C c m) Ω h (most - latest Ω)
 
-  pub overflow_kept : Fits Ω → overflow C (Ω ++ stand_in c m Ω) ≡ rest (usable C c m) Ω (latest Ω)
-  overflow_kept h = kept_by h (leb m (earliest Ω)) refl
+  pub overflow-stand_in : Fits Ω → overflow C (Ω ++ stand_in c m Ω) ≡ rest (usable C c m) Ω (latest Ω)
+  overflow-stand_in h = overflow-stand_in_by h (leb m (earliest Ω)) refl

@@ -17,7 +17,7 @@ use Rattle.elastic.specs.Profile as profile
 use Rattle.elastic.specs.Profile.{latest, creq, minutes, has, overflow}
 use Rattle.elastic.specs.declared.profile.Point.{Point}
 use Rattle.elastic.proofs.Keys.{key_has}
-use Rattle.elastic.proofs.Minutes.{rest, usable, usable_before, usable_after, overflow_kept}
+use Rattle.elastic.proofs.Minutes.{rest, usable, usable_before, usable_after, overflow-stand_in}
 
 -- over n minutes in which r trays are required and m can be used
 pub rest_level : (U : ℕ → ℕ) (Ω : List Lot) (t n r m : ℕ) → ((u : ℕ) → t ≤ u → u < t + n → (creq Ω u ≡ r) × (min (profile.available Ω u) (U u) ≡ m)) → rest U Ω (t + n) ≡ (rest U Ω t + n * r) - n * m
@@ -227,12 +227,12 @@ module _ (U : ℕ → ℕ) (Ω : List Lot) (ok : Lawful max_capacity Ω) where
     walks_done : (ps : List Point) (i : ℕ) → length ps ≤ i → Walks U Ω m a r l (drop i ps) → l ≡ rest U Ω (latest Ω)
     walks_done ps i h w = walks_to (subst (Walks U Ω m a r l) (drop_all i ps h) w)
 
--- beside a run that keeps c of C trays until u
+-- beside a stand-in that keeps c of C trays until u
 module _ (C c u : ℕ) (fits : c ≤ C) (Ω : List Lot) (ok : Lawful max_capacity Ω) (m a r l : ℕ) where
   pub walked : (ps : List Point) (i : ℕ) → length ps ≤ i → Walks (usable C c u) Ω m a r l (drop i ps) → l ≡ overflow C (Ω ++ stand_in c u Ω)
   walked ps i h w =
       let ends = All-weaker _ _ (λ (x : Lot) (f : LawfulLot max_capacity x). f.has_time) Ω ok.each in
-      walks_done (usable C c u) Ω ok m a r l ps i h w ∙ sym (overflow_kept C c u fits Ω ends)
+      walks_done (usable C c u) Ω ok m a r l ps i h w ∙ sym (overflow-stand_in C c u fits Ω ends)
 
   -- one step: up to u under fewer trays, and from there under all
   module _ (p : Point) (ps : List Point) (w : Walks (usable C c u) Ω m a r l (p ∷ ps)) (n : ℕ) (is_n : n ≡ min (max u m) p.minute) where

@@ -1,4 +1,5 @@
 pub mod Profile
 pub mod Overflow
 pub mod Marked
+pub mod Added
 pub mod Private

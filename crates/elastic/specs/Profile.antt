@@ -36,7 +36,9 @@ cons C Ω t before = min (creq Ω t + before) (cmax C Ω t)
 -- ov in the minute before the minute earliest Ω + k: zero in the minute before the earliest est
 abbrev pub ov_before : ℕ → List Lot → ℕ → ℕ
 ov_before C Ω zero = 0
-ov_before C Ω (suc k) = (ov_before C Ω k + creq Ω (earliest Ω + k)) - cons C Ω (earliest Ω + k) (ov_before C Ω k)
+ov_before C Ω (suc k) =
+    let t = earliest Ω + k in let before = ov_before C Ω k in
+    (before + creq Ω t) - cons C Ω t before
 
 -- ov in the last minute before the latest lct
 abbrev pub overflow : ℕ → List Lot → ℕ
@@ -47,6 +49,7 @@ abbrev pub minutes : List Lot → List ℕ
 minutes [] = []
 minutes (x ∷ xs) = x.est ∷ (ect x ∷ (x.lct ∷ minutes xs))
 
+-- whether the list has the number t
 abbrev pub has : ℕ → List ℕ → Bool
 has t [] = false
 has t (u ∷ us) = t == u || has t us

@@ -10,8 +10,8 @@ mod profile;
 
 pub use profile::Profile;
 
-/// The work that is left over at the latest lct of a table, and the number of points of its
-/// profile: a pair, which callers take apart.
+/// The overflow of a table, in trays times minutes, and the number of points of its profile
+/// (docs/RULES.md, "The elastic profile").
 pub fn overflow_of(table: Table<'_>) -> (u32, usize)
     ensures answer { OverflowAnswered table.entry.capacity table.entry.lots.now (Ok result) }
     ensures points { FewPoints table.entry.lots.now (Ok result) }
@@ -21,8 +21,8 @@ pub fn overflow_of(table: Table<'_>) -> (u32, usize)
     Profile::of(table).overflow()
 }
 
-/// The overflow and the number of points of any lots and capacity, apart, since it refuses those
-/// that are no lawful table.
+/// The overflow, in trays times minutes, and the number of points of the profile of any lots under
+/// any capacity. Refused with 9, `Unlawful`, where they are no lawful table.
 pub fn overflow(capacity: u16, lots: &[Lot]) -> Result<(u32, usize), Refusal>
     ensures answer { OverflowAnswered capacity lots.now result }
     ensures points { FewPoints lots.now result }
@@ -35,7 +35,6 @@ pub fn overflow(capacity: u16, lots: &[Lot]) -> Result<(u32, usize), Refusal>
 mod tests {
     use super::*;
 
-    // Field by field: a constant can call no function.
     const FULL: Lot = Lot {
         est: 4,
         lct: 6,
@@ -135,7 +134,7 @@ mod tests {
     }
 
     #[test]
-    fn a_run_beside_keeps_its_trays_until_it_ends(rt: HostRuntime) {
+    fn a_stand_in_keeps_its_trays_until_it_ends(rt: HostRuntime) {
         let first = Lot {
             lct: 5,
             p: 3,

@@ -1,12 +1,13 @@
-//! The elastic profile of some lots of a table: its points, and what is left over at the last of
-//! them.
+//! The elastic profile of some lots of a table: its points, and the work that is left over at the
+//! last of them.
 ghost use Rattle.std.specs.Prelude.{◌≡◌, ◌+◌, ◌-◌, ◌*◌, ◌<◌, ◌≤◌, min, ℕ, false, ◌&&◌, ◌||◌, ◌==◌, nat_lt, List, ◌∷◌, ◌++◌, length, slice_index_or, pos, ◌+ℤ◌, ◌≤ℤ◌, slice_set};
 ghost use Rattle.std.specs.List.{AllByRecursion};
 ghost use Rattle.lots.specs.Limits.{horizon, max_capacity, max_lots};
 ghost use Rattle.lots.specs.Tables.{lot_at, LawfulLot, Lawful};
 ghost use Rattle.lots.specs.declared.Lot.{Lot};
 ghost use Rattle.elastic.specs.Private.Points.{at_est, at_ect, at_lct, Small, Entered, Profiles, point_at, changed_point, max_points};
-ghost use Rattle.elastic.specs.Profile.{overflow as left_over, points as points_of};
+ghost use Rattle.elastic.specs.Profile.{overflow, points};
+ghost use Rattle.elastic.specs.Overflow.{left_over, point_count};
 ghost use Rattle.elastic.specs.Marked.{marked_lots, stand_in};
 ghost use Rattle.std.proofs.Props.{props};
 
@@ -83,23 +84,22 @@ impl Keyed for Point {
     }
 }
 
-// The points of a list of lots. How small their changes are, and that a lot is lawful, its
-// functions ask for: a type that carried either would be made and taken apart in these lines alone.
+// The points of a list of lots, one for each minute at which their profile changes.
 #[derive(Drop)]
 struct Points {
     row: ArrayRow<Point, MAX_POINTS>,
 }
 
 impl Points {
-    // Adds to the two changes of the point at the place i. The row's cells are reached here, and
-    // the point lent here: a row that lent it could not know that its minute stays.
+    // Adds a change to the point at the place i, where that lies. Its minute stays, so the row
+    // still ascends.
     fn alter(&mut self, i: usize, change: Point)
         requires within { i < length self.old.row }
         requires few { length self.old.row ≤ max_points }
         requires small { Small (max_capacity * max_points) (point_at self.old.row i) }
         requires small_change { Small max_capacity change }
-        ensures after { self.new.row
-            ≡ slice_set self.old.row i (changed_point (point_at self.old.row i) change) }
+        ensures after { let altered = changed_point (point_at self.old.row i) change in
+            self.new.row ≡ slice_set self.old.row i altered }
     {
         let row = &mut self.row;
         let point = &mut row.cells[i];
@@ -124,8 +124,8 @@ impl Points {
     fn add(&mut self, lot: &Lot)
         requires lawful { LawfulLot max_capacity lot.now }
         requires profile { (Ω : List Lot) × (length Ω < max_lots) × Profiles self.old.row Ω }
-        ensures after { (Ω Ψ : List Lot) → Profiles self.old.row (Ω ++ Ψ)
-            → Profiles self.new.row (Ω ++ lot.now ∷ Ψ) }
+        ensures after { (Ω Ψ : List Lot)
+            → Profiles self.old.row (Ω ++ Ψ) → Profiles self.new.row (Ω ++ lot.now ∷ Ψ) }
     {
         self.enter(Point::at_est(lot));
         self.enter(Point::at_ect(lot));
@@ -133,18 +133,22 @@ impl Points {
     }
 }
 
-/// The profile of some lots of a table: of those that were added.
+/// The profile of some lots of a table: of those that were added (docs/RULES.md, "The elastic
+/// profile").
 #[derive(Drop)]
 pub struct Profile<'a> {
     table: Table<'a>,
     added: [bool; MAX_LOTS],
     points: Points,
-    // After `by`: this has at most one proof, so it is no part of what tells two profiles apart.
-    ghost profiles: { Profiles points.row (marked_lots added table.lots.now) } by { Prim.hlevel props },
+    // After `by` stands why this has one proof at most, as a ghost field must.
+    ghost profiles: { Profiles points.row
+        (marked_lots added table.lots.now) } by { Prim.hlevel props },
 }
 
 impl<'a> Profile<'a> {
-    /// The profile of none of the lots.
+    ghost use Rattle.elastic.specs.Added.{added_lots};
+
+    /// The profile of none of the table's lots.
     pub fn new(table: Table<'a>) -> Profile<'a>
         ensures table { result.table ≡ table.entry }
         ensures none { (k : ℕ) → slice_index_or result.added k false ≡ false }
@@ -158,7 +162,7 @@ impl<'a> Profile<'a> {
         }
     }
 
-    /// The profile of all lots.
+    /// The profile of all lots of the table.
     pub fn of(table: Table<'a>) -> Profile<'a>
         ensures table { result.table ≡ table.entry }
         ensures all { marked_lots result.added table.entry.lots.now ≡ table.entry.lots.now }
@@ -170,13 +174,13 @@ impl<'a> Profile<'a> {
         profile
     }
 
-    /// Adds the lot of a number, where there is one and it was not added yet.
+    /// Adds the lot of a number, from 0. Where no lot has this number, or its lot was added before,
+    /// nothing changes.
     pub fn add(&mut self, number: usize)
         ensures table { self.new.table ≡ self.old.table }
-        ensures added { (k : ℕ)
-            → slice_index_or self.new.added k false
-            ≡ (slice_index_or self.old.added k false ||
-            (k == number && nat_lt number (length self.old.table.lots.now))) }
+        ensures added { let is_lot = nat_lt number (length self.old.table.lots.now) in
+            (k : ℕ) → slice_index_or self.new.added k false
+            ≡ (slice_index_or self.old.added k false || (k == number && is_lot)) }
     {
         let lots = self.table.lots;
         if number < lots.len() && !self.added[number] {
@@ -192,24 +196,25 @@ impl<'a> Profile<'a> {
         self.table.lots.get(number).map_or(0, |lot| lot.c)
     }
 
-    /// What is left over at the last point, and the number of points.
+    /// The overflow of the lots that were added, in trays times minutes, and the number of points.
     pub fn overflow(&self) -> (u32, usize)
-        ensures left { result.0
-            ≡ left_over self.now.table.capacity
-            (marked_lots self.now.added self.now.table.lots.now) }
-        ensures points { result.1 ≡ points_of (marked_lots self.now.added self.now.table.lots.now) }
+        ensures left { left_over result
+            ≡ overflow self.now.table.capacity (added_lots self.now) }
+        ensures points { point_count result ≡ points (added_lots self.now) }
     {
         let points = self.points.row.as_slice();
         (walk(points, self.table.capacity, 0, 0), points.len())
     }
 
-    /// The same beside a run that keeps the trays of the lot of a number from the first point on
-    /// until a minute. The run has no points.
+    /// The same beside a stand-in: a lot that keeps the trays of the lot of a number from the
+    /// earliest est of the added lots until a minute (docs/RULES.md, "Not-first"). It brings no
+    /// points.
     pub fn overflow_beside(&self, number: usize, until: u16) -> (u32, usize)
-        ensures left { let some = marked_lots self.now.added self.now.table.lots.now in result.0
-            ≡ left_over self.now.table.capacity
-            (some ++ stand_in (lot_at self.now.table.lots.now number).c until some) }
-        ensures points { result.1 ≡ points_of (marked_lots self.now.added self.now.table.lots.now) }
+        ensures left { let some = added_lots self.now in
+            let trays = (lot_at self.now.table.lots.now number).c in
+            left_over result
+            ≡ overflow self.now.table.capacity (some ++ stand_in trays until some) }
+        ensures points { point_count result ≡ points (added_lots self.now) }
     {
         let points = self.points.row.as_slice();
         let left = walk(points, self.table.capacity, self.trays(number), until);
@@ -217,14 +222,13 @@ impl<'a> Profile<'a> {
     }
 }
 
-// What is left over at the last of the points, beside a run that keeps some trays until a minute:
-// up to then so many fewer can be in use, and before the first point none is. The four numbers are
-// one step's; a struct of them would be taken apart at once.
+// What is left over at the last of the points, beside a stand-in that keeps some trays until a
+// minute: up to then so many fewer can be in use, and before the first point none is.
 fn walk(points: &[Point], capacity: u16, trays: u16, until: u16) -> u32
     requires profile { (Ω : List Lot) × Lawful max_capacity Ω × Profiles points.now Ω }
     requires fits { trays ≤ capacity }
     ensures answer { (Ω : List Lot) → Lawful max_capacity Ω → Profiles points.now Ω
-        → result ≡ left_over capacity (Ω ++ stand_in trays until Ω) }
+        → result ≡ overflow capacity (Ω ++ stand_in trays until Ω) }
 {
     let mut left = 0;
     let mut minute = 0;

@@ -1,4 +1,4 @@
--- Rows of elements in the strict order of their keys.
+-- Rows of elements in the strict order of their keys: what putting an element does.
 use Rattle.std.specs.Prelude.{◌≡◌, ℕ, ◌+◌, ◌<◌, ◌≤◌, List, ◌++◌, length, take, drop, slice_index_or}
 use Rattle.std.specs.declared.cmp.Ordering.TheVariants.{Less, Equal, Greater}
 use Rattle.std.specs.declared.cmp.Ordering.{Ordering}
@@ -16,7 +16,7 @@ cells_of r = r.cells.now
 abbrev pub row_of : {E : Type 0} → Row E → List E
 row_of r = take r.len (cells_of r)
 
--- what the row and its cells hold after e was put: row' and cells'
+-- what a row in lent cells, and all of these, hold after e was put: row' and cells'
 abbrev pub Stored : {E : Type 0} → E → (row cells row' cells' : List E) → Place → Type 0
 Stored e row cells row' cells' (Placed i) =
     (i ≤ length row) × (length row < length cells)
@@ -31,8 +31,11 @@ Put n e row row' (Present i) = (i < length row) × (row' ≡ row)
 Put n e row row' Full = (length row ≡ n) × (row' ≡ row)
 
 module _ {E K : Type 0} {R : K → K → Ordering} (o : IsTotalOrder R) (key : E → K) where
+  -- the keys are in strict order: each is lower than those after it
   abbrev pub Ascending : List E → Type 0
-  Ascending row = (i j : ℕ) (d : E) → i < j → j < length row → R (key (slice_index_or row i d)) (key (slice_index_or row j d)) ≡ Less
+  Ascending row =
+      (i j : ℕ) (d : E) → i < j → j < length row
+      → R (key (slice_index_or row i d)) (key (slice_index_or row j d)) ≡ Less
 
   -- the keys before the place i are lower than k
   abbrev pub Below : K → List E → ℕ → Type 0

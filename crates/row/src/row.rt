@@ -5,7 +5,7 @@ ghost use Rattle.std.specs.Cmp.{IsTotalOrder};
 ghost use Rattle.row.specs.Rows.{cells_of, row_of, Ascending, Stored, Seated};
 ghost use Rattle.row.specs.Private.Search.{Sought};
 
-/// Where an element came to stand. Three answers, of which none is an error, and so no `Result`.
+/// Where an element came to stand that was put into a row. Places count from 0.
 #[derive(Clone, Copy, PartialEq, Eq, Debug)]
 pub enum Place {
     /// It was put at this place.
@@ -18,16 +18,18 @@ pub enum Place {
 
 /// An element that a row keeps by its key.
 pub trait Keyed {
+    /// What a row orders its elements by.
     type Key: Ord + Drop;
 
     ghost keyed: { Self → Self.Key };
 
+    /// The element's key.
     fn key(&self) -> Self::Key
         ensures answer { result ≡ keyed self.now };
 }
 
-/// The first `len` of some lent cells, or all of them where there are fewer. The cells are lent:
-/// nothing here allocates.
+/// The first `len` of some lent cells, or all of them where there are fewer: a row, in the strict
+/// order of its keys if it was lent in that order (docs/RULES.md, "The ordered row").
 #[derive(Drop)]
 pub struct Row<'a, E> {
     cells: &'a mut [E],
@@ -43,13 +45,13 @@ fn insert<E: Copy>(cells: &mut [E], len: usize, i: usize, element: E)
     cells[i..len + 1].rotate_right(1);
 }
 
-// That a row ascends is asked of it where it matters, and is no invariant: whoever lends cells may
-// lend any.
+// Cells may be lent in any order, so that a row ascends is a premise of its clauses, and no
+// invariant.
 impl<'a, E: Keyed + Copy> Row<'a, E> {
-    /// The row of the first `len` of these cells.
+    /// The row of the first `len` of these cells; of all, where there are fewer.
     pub fn over(cells: &'a mut [E], len: usize) -> Row<'a, E>
-        ensures over { (result.len ≡ len) × (result.cells.ghost_name ≡ cells.entry.ghost_name)
-            × (result.cells.now ≡ cells.old) }
+        ensures over { (result.len ≡ len)
+            × (result.cells.ghost_name ≡ cells.entry.ghost_name) × (result.cells.now ≡ cells.old) }
     {
         Row { cells, len }
     }
@@ -63,24 +65,25 @@ impl<'a, E: Keyed + Copy> Row<'a, E> {
 
     // The place of the key in the row: where it stands, or else where it would.
     fn seek(&self, key: E::Key) -> Result<usize, usize>
-        ensures bound { MatchResult result (λ i. i < length (row_of self.now))
-            (λ i. i ≤ length (row_of self.now)) }
-        ensures sought { (o : IsTotalOrder E.Key.Ord.cmp) → Ascending o E.keyed (row_of self.now)
-            → Sought o E.keyed key (row_of self.now) result }
+        ensures bound { let count = length (row_of self.now) in
+            MatchResult result (λ i. i < count) (λ i. i ≤ count) }
+        ensures sought { let row = row_of self.now in (o : IsTotalOrder E.Key.Ord.cmp)
+            → Ascending o E.keyed row → Sought o E.keyed key row result }
     {
         let len = self.len();
         self.cells[..len].binary_search_by_key(&key, |element| element.key())
     }
 
-    /// Puts an element at the place of its key, unless the key is there or no cell is free.
+    /// Where the element came to stand: at the place of its key, unless the key is there or no cell
+    /// is free. Then nothing changes.
     pub fn put(&mut self, element: E) -> Place
         ensures lent { self.new.cells.ghost_name ≡ self.old.cells.ghost_name }
-        ensures stored { Stored element (row_of self.old) (cells_of self.old) (row_of self.new)
-            (cells_of self.new) result }
-        ensures seated { (o : IsTotalOrder E.Key.Ord.cmp) → Ascending o E.keyed (row_of self.old)
-            → Seated o E.keyed element (row_of self.old) result }
-        ensures ascends { (o : IsTotalOrder E.Key.Ord.cmp) → Ascending o E.keyed (row_of self.old)
-            → Ascending o E.keyed (row_of self.new) }
+        ensures stored { Stored element (row_of self.old) (cells_of self.old)
+            (row_of self.new) (cells_of self.new) result }
+        ensures seated { let row = row_of self.old in (o : IsTotalOrder E.Key.Ord.cmp)
+            → Ascending o E.keyed row → Seated o E.keyed element row result }
+        ensures ascends { (o : IsTotalOrder E.Key.Ord.cmp)
+            → Ascending o E.keyed (row_of self.old) → Ascending o E.keyed (row_of self.new) }
     {
         let len = self.len();
         match self.seek(element.key()) {

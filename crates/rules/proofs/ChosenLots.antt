@@ -6,15 +6,15 @@ use Rattle.std.proofs.lemmas.Bool.{cond_both}
 use Rattle.lots.specs.Tables.{lot_at, LawfulLot, Lawful}
 use Rattle.lots.specs.declared.Lot.{Lot}
 use Rattle.elastic.proofs.Marked.{cond_append}
-use Rattle.rules.specs.Chosen.{chosen}
+use Rattle.rules.specs.Chosen.{chosen_lots}
 use Rattle.rules.specs.Laws.ChosenLots.{chosen_each}
 
 module _ (test : ℕ → Lot → Bool) where
-  chosen_few : (k : ℕ) (T : List Lot) → length (chosen test k T) ≤ length T
+  chosen_few : (k : ℕ) (T : List Lot) → length (chosen_lots test k T) ≤ length T
   chosen_few k [] = omega arith
-  chosen_few k (x ∷ xs) = cond_both (test k x) (x ∷ chosen test (suc k) xs) (chosen test (suc k) xs) (λ ys. length ys ≤ suc (length xs)) (λ e. omega (arith, chosen_few (suc k) xs)) (λ e. omega (arith, chosen_few (suc k) xs))
+  chosen_few k (x ∷ xs) = cond_both (test k x) (x ∷ chosen_lots test (suc k) xs) (chosen_lots test (suc k) xs) (λ ys. length ys ≤ suc (length xs)) (λ e. omega (arith, chosen_few (suc k) xs)) (λ e. omega (arith, chosen_few (suc k) xs))
 
-  pub chosen_lawful : (C : ℕ) (T : List Lot) → Lawful C T → Lawful C (chosen test 0 T)
+  pub chosen_lawful : (C : ℕ) (T : List Lot) → Lawful C T → Lawful C (chosen_lots test 0 T)
   chosen_lawful C T ok = record {
     some_trays = ok.some_trays;
     few_trays = ok.few_trays;
@@ -23,24 +23,24 @@ module _ (test : ℕ → Lot → Bool) where
   }
 
   -- the loop that gathers, one lot more
-  chosen_push : (k : ℕ) (T : List Lot) (x : Lot) → chosen test k (T ++ (x ∷ [])) ≡ chosen test k T ++ (if test (k + length T) x then x ∷ [] else [])
+  chosen_push : (k : ℕ) (T : List Lot) (x : Lot) → chosen_lots test k (T ++ (x ∷ [])) ≡ chosen_lots test k T ++ (if test (k + length T) x then x ∷ [] else [])
   chosen_push k [] x = ap (λ n. if test n x then x ∷ [] else []) (sym (add-zero k))
   chosen_push k (y ∷ ys) x =
-      let rest = chosen_push (suc k) ys x ∙ ap (λ n. chosen test (suc k) ys ++ (if test n x then x ∷ [] else [])) (omega arith) in
-      ap (λ zs. if test k y then y ∷ zs else zs) rest ∙ cond_append (test k y) y (chosen test (suc k) ys) (if test (k + suc (length ys)) x then x ∷ [] else [])
+      let rest = chosen_push (suc k) ys x ∙ ap (λ n. chosen_lots test (suc k) ys ++ (if test n x then x ∷ [] else [])) (omega arith) in
+      ap (λ zs. if test k y then y ∷ zs else zs) rest ∙ cond_append (test k y) y (chosen_lots test (suc k) ys) (if test (k + suc (length ys)) x then x ∷ [] else [])
 
-  pub chosen_more : (T : List Lot) (i : ℕ) → i < length T → chosen test 0 (take (i + 1) T) ≡ chosen test 0 (take i T) ++ (if test i (lot_at T i) then lot_at T i ∷ [] else [])
+  pub chosen_more : (T : List Lot) (i : ℕ) → i < length T → chosen_lots test 0 (take (i + 1) T) ≡ chosen_lots test 0 (take i T) ++ (if test i (lot_at T i) then lot_at T i ∷ [] else [])
   chosen_more T i h =
-      ap (chosen test 0) (take_more T i _ h)
+      ap (chosen_lots test 0) (take_more T i _ h)
       ∙ chosen_push 0 (take i T) (lot_at T i)
-      ∙ ap (λ n. chosen test 0 (take i T) ++ (if test n (lot_at T i) then lot_at T i ∷ [] else [])) (zero-add (length (take i T)) ∙ length-take-le i T (omega arith))
+      ∙ ap (λ n. chosen_lots test 0 (take i T) ++ (if test n (lot_at T i) then lot_at T i ∷ [] else [])) (zero-add (length (take i T)) ∙ length-take-le i T (omega arith))
 
-  module _ (T : List Lot) (i : ℕ) (h : i < length T) (xs : List Lot) (is : xs ≡ chosen test 0 (take i T)) where
-    pub chosen_takes : test i (lot_at T i) ≡ true → (ys : List Lot) → ys ≡ xs ++ (lot_at T i ∷ []) → ys ≡ chosen test 0 (take (i + 1) T)
+  module _ (T : List Lot) (i : ℕ) (h : i < length T) (xs : List Lot) (is : xs ≡ chosen_lots test 0 (take i T)) where
+    pub chosen_takes : test i (lot_at T i) ≡ true → (ys : List Lot) → ys ≡ xs ++ (lot_at T i ∷ []) → ys ≡ chosen_lots test 0 (take (i + 1) T)
     chosen_takes passed ys made =
         made ∙ ap (λ zs. zs ++ (lot_at T i ∷ [])) is
-        ∙ sym (chosen_more T i h ∙ ap (λ b. chosen test 0 (take i T) ++ (if b then lot_at T i ∷ [] else [])) passed)
+        ∙ sym (chosen_more T i h ∙ ap (λ b. chosen_lots test 0 (take i T) ++ (if b then lot_at T i ∷ [] else [])) passed)
 
-    pub chosen_skips : test i (lot_at T i) ≡ false → xs ≡ chosen test 0 (take (i + 1) T)
+    pub chosen_skips : test i (lot_at T i) ≡ false → xs ≡ chosen_lots test 0 (take (i + 1) T)
     chosen_skips failed =
-        is ∙ sym (chosen_more T i h ∙ ap (λ b. chosen test 0 (take i T) ++ (if b then lot_at T i ∷ [] else [])) failed ∙ append-nil (chosen test 0 (take i T)))
+        is ∙ sym (chosen_more T i h ∙ ap (λ b. chosen_lots test 0 (take i T) ++ (if b then lot_at T i ∷ [] else [])) failed ∙ append-nil (chosen_lots test 0 (take i T)))

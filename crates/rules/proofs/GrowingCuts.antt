@@ -12,34 +12,34 @@ use Rattle.elastic.specs.Profile.{has, overflow}
 use Rattle.elastic.proofs.Counts.{has_push}
 use Rattle.elastic.proofs.Keys.{key_place, key_has}
 use Rattle.elastic.proofs.Walks.{rank_less}
-use Rattle.rules.specs.Chosen.{chosen, overfull}
+use Rattle.rules.specs.Chosen.{chosen_lots, is_overfull}
 use Rattle.rules.specs.Private.Ends.{end_minutes, Lowest, DistinctEnds}
 use Rattle.rules.specs.Overload.{ends_of}
 use Rattle.rules.specs.Private.GrowingCuts.{Marks, MarksBefore}
-use Rattle.rules.specs.NotFirst.{in_cut, cut, least_ect, with_stand_in}
+use Rattle.rules.specs.NotFirst.{is_in_cut, cut, least_ect, cut_with_stand_in}
 use Rattle.rules.specs.Private.EndBounds.{end_bound, greatest_end_bound}
 use Rattle.rules.specs.declared.ends.End.{End}
 use Rattle.rules.proofs.ChosenLots.{chosen_more}
 
 -- the lots that are marked, where the marks are the answers of a test
-pub those_chosen : (test : ℕ → Lot → Bool) (k : ℕ) (bs : List Bool) (T : List Lot) → ((j : ℕ) → j < length T → get_or bs j false ≡ test (k + j) (lot_at T j)) → marked_lots bs T ≡ chosen test k T
-those_chosen test k [] [] h = refl
-those_chosen test k [] (x ∷ xs) h =
+pub marked_lots-chosen : (test : ℕ → Lot → Bool) (k : ℕ) (bs : List Bool) (T : List Lot) → ((j : ℕ) → j < length T → get_or bs j false ≡ test (k + j) (lot_at T j)) → marked_lots bs T ≡ chosen_lots test k T
+marked_lots-chosen test k [] [] h = refl
+marked_lots-chosen test k [] (x ∷ xs) h =
     let out : test k x ≡ false = sym (h 0 (omega arith) ∙ ap (λ n. test n x) (add-zero k)) in
-    let rest = those_chosen test (suc k) [] xs (λ j l. h (suc j) (omega arith) ∙ ap (λ n. test n (lot_at xs j)) (omega arith)) in
-    rest ∙ ap (λ b. if b then x ∷ chosen test (suc k) xs else chosen test (suc k) xs) (sym out)
-those_chosen test k (b ∷ bs) [] h = refl
-those_chosen test k (b ∷ bs) (x ∷ xs) h =
+    let rest = marked_lots-chosen test (suc k) [] xs (λ j l. h (suc j) (omega arith) ∙ ap (λ n. test n (lot_at xs j)) (omega arith)) in
+    rest ∙ ap (λ b. if b then x ∷ chosen_lots test (suc k) xs else chosen_lots test (suc k) xs) (sym out)
+marked_lots-chosen test k (b ∷ bs) [] h = refl
+marked_lots-chosen test k (b ∷ bs) (x ∷ xs) h =
     let here : b ≡ test k x = h 0 (omega arith) ∙ ap (λ n. test n x) (add-zero k) in
-    let rest = those_chosen test (suc k) bs xs (λ j l. h (suc j) (omega arith) ∙ ap (λ n. test n (lot_at xs j)) (omega arith)) in
+    let rest = marked_lots-chosen test (suc k) bs xs (λ j l. h (suc j) (omega arith) ∙ ap (λ n. test n (lot_at xs j)) (omega arith)) in
     ap₂ (λ c ys. if c then x ∷ ys else ys) here rest
 
 pub marked_cut : (T : List Lot) (i t : ℕ) (bs : List Bool) → Marks T i t bs → marked_lots bs T ≡ cut T i t
-marked_cut T i t bs h = those_chosen (in_cut i (lot_at T i).est t) 0 bs T (λ j l. h j l ∙ ap (λ n. in_cut i (lot_at T i).est t n (lot_at T j)) (omega arith))
+marked_cut T i t bs h = marked_lots-chosen (is_in_cut i (lot_at T i).est t) 0 bs T (λ j l. h j l ∙ ap (λ n. is_in_cut i (lot_at T i).est t n (lot_at T j)) (omega arith))
 
 -- what is left over in the profile of the marked lots, beside the run that stands in
-pub left_beside : (C : ℕ) (T : List Lot) (i t : ℕ) (bs : List Bool) → Marks T i t bs → (m : ℕ) → m ≡ min (ect (lot_at T i)) t → (left : ℕ) → left ≡ overflow C (marked_lots bs T ++ stand_in (lot_at T i).c m (marked_lots bs T)) → left ≡ overflow C (with_stand_in T i t)
-left_beside C T i t bs h m e left is = is ∙ ap₂ (λ Ω n. overflow C (Ω ++ stand_in (lot_at T i).c n Ω)) (marked_cut T i t bs h) e
+pub left_with_stand_in : (C : ℕ) (T : List Lot) (i t : ℕ) (bs : List Bool) → Marks T i t bs → (m : ℕ) → m ≡ min (ect (lot_at T i)) t → (left : ℕ) → left ≡ overflow C (marked_lots bs T ++ stand_in (lot_at T i).c m (marked_lots bs T)) → left ≡ overflow C (cut_with_stand_in T i t)
+left_with_stand_in C T i t bs h m e left is = is ∙ ap₂ (λ Ω n. overflow C (Ω ++ stand_in (lot_at T i).c n Ω)) (marked_cut T i t bs h) e
 
 -- whether a lot has the end t, one lot more
 module _ (test : ℕ → Lot → Bool) (t : ℕ) where
@@ -49,19 +49,19 @@ module _ (test : ℕ → Lot → Bool) (t : ℕ) where
   ends_cond false x xs = ap (λ ys. has t (ends_of ys)) (append-nil xs) ∙ ap (λ b. b || has t (ends_of xs)) (sym (and-false (eqb t x.lct)))
 
   module _ (T : List Lot) (n : ℕ) (h : n < length T) where
-    ends_more : has t (ends_of (chosen test 0 (take (n + 1) T))) ≡ ((eqb t (lot_at T n).lct && test n (lot_at T n)) || has t (ends_of (chosen test 0 (take n T))))
-    ends_more = ap (λ xs. has t (ends_of xs)) (chosen_more test T n h) ∙ ends_cond (test n (lot_at T n)) (lot_at T n) (chosen test 0 (take n T))
+    ends_more : has t (ends_of (chosen_lots test 0 (take (n + 1) T))) ≡ ((eqb t (lot_at T n).lct && test n (lot_at T n)) || has t (ends_of (chosen_lots test 0 (take n T))))
+    ends_more = ap (λ xs. has t (ends_of xs)) (chosen_more test T n h) ∙ ends_cond (test n (lot_at T n)) (lot_at T n) (chosen_lots test 0 (take n T))
 
-    pub end_comes : (eqb t (lot_at T n).lct && test n (lot_at T n)) ≡ true → has t (ends_of (chosen test 0 (take (n + 1) T))) ≡ true
+    pub end_comes : (eqb t (lot_at T n).lct && test n (lot_at T n)) ≡ true → has t (ends_of (chosen_lots test 0 (take (n + 1) T))) ≡ true
     end_comes here = ends_more ∙ or_left _ _ here
 
-    pub end_stays : (eqb t (lot_at T n).lct && test n (lot_at T n)) ≡ false → has t (ends_of (chosen test 0 (take (n + 1) T))) ≡ has t (ends_of (chosen test 0 (take n T)))
-    end_stays out = ends_more ∙ ap (λ b. b || has t (ends_of (chosen test 0 (take n T)))) out
+    pub end_stays : (eqb t (lot_at T n).lct && test n (lot_at T n)) ≡ false → has t (ends_of (chosen_lots test 0 (take (n + 1) T))) ≡ has t (ends_of (chosen_lots test 0 (take n T)))
+    end_stays out = ends_more ∙ ap (λ b. b || has t (ends_of (chosen_lots test 0 (take n T)))) out
 
 -- the marks after the lots before n were asked, those of a later number being marked where they are in the cut before t
 pub record Growing (T : List Lot) (i t n : ℕ) (bs : List Bool) : Type 0 where
-  pub so_far : (k : ℕ) → k < n → k < length T → get_or bs k false ≡ in_cut i (lot_at T i).est t k (lot_at T k)
-  pub to_come : (k : ℕ) → n ≤ k → k < length T → get_or bs k false ≡ (in_cut i (lot_at T i).est t k (lot_at T k) && ltb (lot_at T k).lct t)
+  pub so_far : (k : ℕ) → k < n → k < length T → get_or bs k false ≡ is_in_cut i (lot_at T i).est t k (lot_at T k)
+  pub to_come : (k : ℕ) → n ≤ k → k < length T → get_or bs k false ≡ (is_in_cut i (lot_at T i).est t k (lot_at T k) && ltb (lot_at T k).lct t)
 
 -- a lot whose end is another, or that is not in the cut, is in the cut before t where it is in the cut
 asked : (a b : Bool) (m t : ℕ) → (eqb t m && (a && (b && leb m t))) ≡ false → ((a && (b && leb m t)) && ltb m t) ≡ (a && (b && leb m t))
@@ -71,7 +71,7 @@ asked true true m t out = grind (arith, nat_tests)
 
 module _ (T : List Lot) (i t n : ℕ) (bs : List Bool) (g : Growing T i t n bs) where
   abbrev comes : ℕ → Bool
-  comes k = in_cut i (lot_at T i).est t k (lot_at T k)
+  comes k = is_in_cut i (lot_at T i).est t k (lot_at T k)
 
   module _ (bs' : List Bool) (l : ℕ) (is : (k : ℕ) → get_or bs' k false ≡ (get_or bs k false || (eqb k n && ltb n l))) where
     at_other : (k : ℕ) → (k ≡ n → ⊥) → get_or bs' k false ≡ get_or bs k false
@@ -107,11 +107,11 @@ module _ (T : List Lot) (i : ℕ) (x : End) (low : Lowest T x) where
     to_come = λ k l h. before k h;
   }
 
-  pub no_end_yet : (test : ℕ → Lot → Bool) (n : ℕ) → n ≤ x.lot → has x.lct (ends_of (chosen test 0 (take n T))) ≡ false
+  pub no_end_yet : (test : ℕ → Lot → Bool) (n : ℕ) → n ≤ x.lot → has x.lct (ends_of (chosen_lots test 0 (take n T))) ≡ false
   no_end_yet test zero h = refl
   no_end_yet test (suc n) h =
       let out = and_left (eqb x.lct (lot_at T n).lct) (test n (lot_at T n)) (ne_eqb x.lct (lot_at T n).lct (λ e. low.lowest n (omega arith) (sym e))) in
-      ap (λ m. has x.lct (ends_of (chosen test 0 (take m T)))) (sym (add-one n)) ∙ end_stays test x.lct T n (omega (arith, low.is_lot)) out ∙ no_end_yet test n (omega arith)
+      ap (λ m. has x.lct (ends_of (chosen_lots test 0 (take m T)))) (sym (add-one n)) ∙ end_stays test x.lct T n (omega (arith, low.is_lot)) out ∙ no_end_yet test n (omega arith)
 
 -- between two ends that follow each other no lot must be out
 before_later : (a b : Bool) (m t u : ℕ) → t < u → (t < m → u ≤ m) → ((a && (b && leb m u)) && ltb m u) ≡ (a && (b && leb m t))
@@ -167,15 +167,15 @@ module _ (T : List Lot) (i : ℕ) (es : List End) (is : DistinctEnds T es) where
 
 -- the bound that an end puts
 module _ (C : ℕ) (T : List Lot) (i t : ℕ) where
-  by_tests : (b d : Bool) → has t (ends_of (cut T i t)) ≡ b → overfull C (with_stand_in T i t) ≡ d → end_bound C T i t ≡ (if b && d then least_ect (cut T i t) else 0)
+  by_tests : (b d : Bool) → has t (ends_of (cut T i t)) ≡ b → is_overfull C (cut_with_stand_in T i t) ≡ d → end_bound C T i t ≡ (if b && d then least_ect (cut T i t) else 0)
   by_tests b d e f = ap₂ (λ p q. if p && q then least_ect (cut T i t) else 0) e f
 
-  module _ (ends : has t (ends_of (cut T i t)) ≡ true) (left : ℕ) (is : left ≡ overflow C (with_stand_in T i t)) where
+  module _ (ends : has t (ends_of (cut T i t)) ≡ true) (left : ℕ) (is : left ≡ overflow C (cut_with_stand_in T i t)) where
     pub none_left : left ≡ 0 → end_bound C T i t ≡ 0
-    none_left e = by_tests true false ends (le-ltb 0 (overflow C (with_stand_in T i t)) (omega (arith, is, e)))
+    none_left e = by_tests true false ends (le-ltb 0 (overflow C (cut_with_stand_in T i t)) (omega (arith, is, e)))
 
     pub some_left : (left ≡ 0 → ⊥) → end_bound C T i t ≡ least_ect (cut T i t)
-    some_left ne = by_tests true true ends (lt-ltb 0 (overflow C (with_stand_in T i t)) (omega (arith, is, ne)))
+    some_left ne = by_tests true true ends (lt-ltb 0 (overflow C (cut_with_stand_in T i t)) (omega (arith, is, ne)))
 
   -- the greatest bound, one end more
   greatest_push : (ts : List ℕ) → greatest_end_bound C T i (ts ++ (t ∷ [])) ≡ max (greatest_end_bound C T i ts) (end_bound C T i t)

@@ -5,7 +5,5 @@ pub mod Raised
 pub mod Bounds
 pub mod GrowingCuts
 pub mod ChosenLots
-pub mod FixedParts
-pub mod Cuts
 pub mod OverloadEnds
 pub mod Searches

@@ -16,27 +16,32 @@ use Rattle.rule.specs.Meanings.{Applied, dead, IsVerdictOn}
 use Rattle.rule.specs.Raised.{raise}
 use Rattle.rule.specs.declared.Verdict.{Verdict}
 use Rattle.rule.specs.declared.Verdict.TheVariants.{Dead}
-use Rattle.rules.specs.TimeTable.{fixed, fixed_load, fixed_others, some_below, after_last, bound_of, time_table}
-use Rattle.rules.specs.Private.Loads.{blocked_under}
+use Rattle.rules.specs.TimeTable.{fixed_trays, fixed_load, fixed_load_of_others, some_below, some_passes, after_last, bound_of, time_table}
+use Rattle.rules.specs.Private.Loads.{is_blocked_under}
 use Rattle.rules.specs.declared.time_table.Loads.{Loads}
-use Rattle.rules.proofs.FixedParts.{fixed_split}
 use Rattle.rules.specs.Laws.Searches.{some_none}
-use Rattle.rules.proofs.Searches.{some_here, after_last_none, after_last_same}
+use Rattle.rules.proofs.Searches.{some_here, after_last_same}
 use Rattle.rules.proofs.Raised.{raise_same, applied_from_verdict}
 
 -- the load is a sum over the lots
-fixed_sum : (T : List Lot) (t : ℕ) → fixed_load T t ≡ sum_by (λ x. fixed x t) T
-fixed_sum T t = is_sum_by (λ xs. fixed_load xs t) (λ x. fixed x t) refl (λ x xs. refl) T
+fixed_sum : (T : List Lot) (t : ℕ) → fixed_load T t ≡ sum_by (λ x. fixed_trays x t) T
+fixed_sum T t = is_sum_by (λ xs. fixed_load xs t) (λ x. fixed_trays x t) refl (λ x xs. refl) T
 
-pub fixed_more : (T : List Lot) (i t : ℕ) → i < length T → fixed_load (take (i + 1) T) t ≡ fixed_load (take i T) t + fixed (lot_at T i) t
-fixed_more T i t h = omega (arith, fixed_sum (take (i + 1) T) t, fixed_sum (take i T) t, sum_by_more (λ x. fixed x t) T i (lot_at [] 0) h)
+pub fixed_more : (T : List Lot) (i t : ℕ) → i < length T → fixed_load (take (i + 1) T) t ≡ fixed_load (take i T) t + fixed_trays (lot_at T i) t
+fixed_more T i t h = omega (arith, fixed_sum (take (i + 1) T) t, fixed_sum (take i T) t, sum_by_more (λ x. fixed_trays x t) T i (lot_at [] 0) h)
 
-fixed_le : (x : Lot) (t : ℕ) → fixed x t ≤ x.c
+fixed_le : (x : Lot) (t : ℕ) → fixed_trays x t ≤ x.c
 fixed_le x t = grind (arith, nat_tests)
 
 fixed_few : (T : List Lot) (t : ℕ) → AllByRecursion (LawfulLot max_capacity) T → fixed_load T t ≤ max_capacity * length T
 fixed_few [] t ok = omega arith
 fixed_few (x ∷ xs) t ok = omega (arith, fixed_le x t, ok.0.has_trays, fixed_few xs t ok.1)
+
+-- the fixed parts of all are those of one and of the others
+pub fixed_split : (j : ℕ) (T : List Lot) (t : ℕ) → j < length T → fixed_load T t ≡ fixed_trays (lot_at T j) t + fixed_load_of_others j T t
+fixed_split j [] t h = absurd (omega arith)
+fixed_split zero (x ∷ xs) t h = refl
+fixed_split (suc j) (x ∷ xs) t h = omega (arith, fixed_split j xs t (omega arith))
 
 -- what is known of the lots of a table
 module _ (s : Table) where
@@ -54,11 +59,11 @@ module _ (s : Table) where
   loads_few t = omega (arith, fixed_few s.lots.now t lawful.each, lots_few)
 
   pub loads_few_so_far : (i t : ℕ) → fixed_load (take i s.lots.now) t ≤ max_capacity * max_lots
-  loads_few_so_far i t = omega (arith, fixed_sum (take i s.lots.now) t, fixed_sum s.lots.now t, sum_by-take-le (λ x. fixed x t) s.lots.now i, loads_few t)
+  loads_few_so_far i t = omega (arith, fixed_sum (take i s.lots.now) t, fixed_sum s.lots.now t, sum_by-take-le (λ x. fixed_trays x t) s.lots.now i, loads_few t)
 
   -- whether some load passes the capacity
   abbrev pub passes : Bool
-  passes = some_below (λ t. ltb s.capacity (fixed_load s.lots.now t)) horizon
+  passes = some_passes s.capacity s.lots.now
 
 -- what is read off the loads of a table
 module _ (l : Loads) where
@@ -73,30 +78,13 @@ module _ (l : Loads) where
   passes_read minutes false none = sym (some_none _ _ (λ t h. le-ltb _ _ (omega (arith, none t (omega arith), l.loaded t h))))
 
   -- the bound by the loads of all is the bound by those of the others
-  pub bound_read : (j : ℕ) → j < length l.table.lots.now → after_last (blocked_under l.by_minute l.table.capacity (lot_at l.table.lots.now j)) (ect (lot_at l.table.lots.now j)) ≡ bound_of l.table.capacity l.table.lots.now j
+  pub bound_read : (j : ℕ) → j < length l.table.lots.now → after_last (is_blocked_under l (lot_at l.table.lots.now j)) (ect (lot_at l.table.lots.now j)) ≡ bound_of l.table.capacity l.table.lots.now j
   bound_read j h =
       let x = lot_at l.table.lots.now j in
       let ok = lot_lawful l.table j h in
       after_last_same _ _ (ect x) (λ t going.
-      let others : x.c + get_or l.by_minute t 0 - fixed x t ≡ x.c + fixed_others j l.table.lots.now t = omega (arith, l.loaded t (omega (arith, ok.has_time, ok.in_week)), fixed_split j l.table.lots.now t h) in
+      let others : x.c + get_or l.by_minute t 0 - fixed_trays x t ≡ x.c + fixed_load_of_others j l.table.lots.now t = omega (arith, l.loaded t (omega (arith, ok.has_time, ok.in_week)), fixed_split j l.table.lots.now t h) in
       ap (λ n. leb x.est t && ltb l.table.capacity n) others)
-
--- r is the last minute below n of which a test holds, if there is one
-abbrev pub IsLastBelow : (ℕ → Bool) → ℕ → Option ℕ → Type 0
-IsLastBelow f n r = MatchOption r ((t : ℕ) → t < n → f t ≡ false) (λ m. (m < n) × (f m ≡ true) × ((t : ℕ) → m < t → t < n → f t ≡ false))
-
-after_last_at : (f : ℕ → Bool) (n m : ℕ) → m < n → f m ≡ true → ((t : ℕ) → m < t → t < n → f t ≡ false) → m + 1 ≡ after_last f n
-unfolding after_last
-after_last_at f zero m h here after = absurd (omega arith)
-after_last_at f (suc n) m h here after = elim (cases_order m n) [
-  | inl same ↦ omega (arith, cond-true (f n) (suc n) (after_last f n) (subst (λ k. f k ≡ true) same here))
-  | inr (inl less) ↦ omega (arith, cond-false (f n) (suc n) (after_last f n) (after n less (omega arith)), after_last_at f n m less here (λ t l k. after t l (omega arith)))
-  | inr (inr more) ↦ absurd (omega arith)
-]
-
-pub after_last_found : (f : ℕ → Bool) (n : ℕ) (r : Option ℕ) (bound : ℕ) → IsLastBelow f n r → MatchOption r (bound ≡ 0) (λ m. bound ≡ m + 1) → bound ≡ after_last f n
-after_last_found f n None bound none is = is ∙ sym (after_last_none f n none)
-after_last_found f n (Some m) bound last is = is ∙ after_last_at f n m last.0 last.1 last.2
 
 -- the rule at the capacity C and the lots T: the loads are of the table s, which is the table t of these
 module _ (C : ℕ) (T : List Lot) (s t : Table) (same : s ≡ t) (is : (t.capacity ≡ C) × (t.lots.now ≡ T) × Lawful C T) where

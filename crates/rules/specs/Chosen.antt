@@ -4,9 +4,11 @@ use Rattle.lots.specs.declared.Lot.{Lot}
 use Rattle.elastic.specs.Profile.{overflow}
 
 -- those of which the test holds, in their order; the first has the number k
-abbrev pub chosen : (ℕ → Lot → Bool) → ℕ → List Lot → List Lot
-chosen test k [] = []
-chosen test k (x ∷ xs) = if test k x then x ∷ chosen test (suc k) xs else chosen test (suc k) xs
+abbrev pub chosen_lots : (ℕ → Lot → Bool) → ℕ → List Lot → List Lot
+chosen_lots test k [] = []
+chosen_lots test k (x ∷ xs) =
+    if test k x then x ∷ chosen_lots test (suc k) xs else chosen_lots test (suc k) xs
 
-abbrev pub overfull : ℕ → List Lot → Bool
-overfull C Ω = nat_lt 0 (overflow C Ω)
+-- whether they have more work than fits: overflow above 0
+abbrev pub is_overfull : ℕ → List Lot → Bool
+is_overfull C Ω = nat_lt 0 (overflow C Ω)

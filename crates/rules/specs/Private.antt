@@ -3,4 +3,5 @@ pub mod GrowingCuts
 pub mod Tests
 pub mod Loads
 pub mod EndBounds
+pub mod Candidates
 pub mod Ends

@@ -1,7 +1,7 @@
 //! Some of the lots of a table, gathered to be looked at as a list of their own.
 ghost use Rattle.std.specs.Prelude.{◌≡◌, ℕ, Bool};
 ghost use Rattle.lots.specs.declared.Lot.{Lot as AnyLot};
-ghost use Rattle.rules.specs.Chosen.{chosen as those_of, overfull as more_than_fits};
+ghost use Rattle.rules.specs.Chosen.{chosen_lots, is_overfull as overfull};
 ghost use Rattle.rules.specs.Private.Tests.{Tests};
 
 use arrayvec::ArrayVec;
@@ -15,11 +15,10 @@ pub(crate) fn chosen<F: Fn(usize, &Lot) -> bool>(
 ) -> ArrayVec<Lot, MAX_LOTS>
     requires callable { F.IsAlwaysCallable test }
     ensures answer { (p : ℕ → AnyLot → Bool) → Tests (F.post test) p
-        → result.items ≡ those_of p 0 table.entry.lots.now }
+        → result.items ≡ chosen_lots p 0 table.entry.lots.now }
 {
     let mut chosen = ArrayVec::new();
-    // A loop: `from_iter` asks for an allocator, and `extend` gives a `Result`, though the lots of
-    // a table always fit.
+    // `from_iter` would ask for an allocator, and `extend` answer a `Result`.
     for (number, lot) in table.lots.iter().enumerate() {
         if test(number, lot) {
             chosen.push(*lot);
@@ -28,9 +27,9 @@ pub(crate) fn chosen<F: Fn(usize, &Lot) -> bool>(
     chosen
 }
 
-/// Whether some work is left over.
+/// Whether the lots of a table have more work than fits.
 pub(crate) fn is_overfull(table: Table<'_>) -> bool
-    ensures answer { result ≡ more_than_fits table.entry.capacity table.entry.lots.now }
+    ensures answer { result ≡ overfull table.entry.capacity table.entry.lots.now }
 {
     let (left, _points) = overflow_of(table);
     left > 0

@@ -1,27 +1,27 @@
 //! The pile that the house uses.
 ghost use Rattle.std.specs.Prelude.{◌≡◌};
-ghost use Rattle.rules.specs.House.{house as the_house};
+ghost use Rattle.rules.specs.House.{house};
 ghost use Rattle.rules.specs.Laws.HouseSound.{house_sound};
 
 use crate::{NotFirst, Overload, TimeTable};
 use lots::{Lot, Refusal};
 use rule::{Both, Rule, Turned, Verdict};
 
-// Overload, time-table, not-first, turned time-table, turned not-first, in this order.
 type Pile = Both<
     Overload,
     Both<TimeTable, Both<NotFirst, Both<Turned<TimeTable>, Turned<NotFirst>>>>,
 >;
 
-/// The house pile, as a rule of a type of its own: its meaning is one definition.
+/// The house pile as a rule: overload, time-table, not-first, turned time-table and turned
+/// not-first, in this order (docs/RULES.md, "Piles").
 #[derive(Clone, Copy, Debug)]
 pub struct House {
     pile: Pile,
 }
 
-/// The house pile.
+/// The house pile: the rule by which the house tightens and solves.
 pub fn house_pile() -> House
-    ensures house { ⟦<House as Rule>⟧.meaning result ≡ the_house }
+    ensures house { ⟦<House as Rule>⟧.meaning result ≡ house }
 {
     House {
         pile: Pile::default(),
@@ -29,7 +29,7 @@ pub fn house_pile() -> House
 }
 
 impl Rule for House {
-    ghost meaning = { λ _. the_house };
+    ghost meaning = { λ _. house };
 
     ghost sound = { λ x. house_sound };
 

@@ -1,12 +1,11 @@
-//! Raises the earliest start of a lot that cannot start before some others have ended.
+//! The rule not-first: a lot that cannot start before one of some others has ended starts at their
+//! least ect or later.
 ghost use Rattle.std.specs.Prelude.{◌≡◌, ℕ, ◌<◌, length, slice_index};
-ghost use Rattle.lots.specs.Tables.{lot_at};
 ghost use Rattle.elastic.specs.Profile.{has};
 ghost use Rattle.rules.specs.Private.Ends.{end_minutes, Lowest, DistinctEnds};
 ghost use Rattle.rules.specs.Overload.{ends_of};
-ghost use Rattle.rules.specs.NotFirst.{in_cut, cut as the_cut, least_ect, not_first as starts_after_some};
-ghost use Rattle.rules.specs.Private.EndBounds.{end_bound, greatest_end_bound};
-ghost use Rattle.rules.specs.Private.GrowingCuts.{Marks, MarksBefore};
+ghost use Rattle.rules.specs.NotFirst.{is_in_cut, least_ect, not_first};
+ghost use Rattle.rules.specs.Private.EndBounds.{greatest_end_bound};
 ghost use Rattle.rules.specs.Laws.NotFirstSound.{not_first_sound};
 
 use crate::chosen::chosen;
@@ -16,7 +15,7 @@ use elastic::Profile;
 use lots::{Lot, MAX_LOTS, Refusal, Table};
 use rule::{Rule, Verdict, raise};
 
-// The least ect, and 0 without lots, as it is defined.
+// The least ect, and 0 without lots.
 fn least_end(lots: &[Lot]) -> u32
     ensures answer { result ≡ least_ect lots.now }
 {
@@ -32,8 +31,10 @@ struct Candidate<'a> {
 }
 
 impl Candidate<'_> {
+    ghost use Rattle.rules.specs.Private.Candidates.{own_lot, cut_of, MarksCut, MarksCutBefore, bound_at_end, bound_over_ends};
+
     fn lot(self) -> Lot
-        ensures answer { result ≡ lot_at self.entry.table.lots.now self.entry.number }
+        ensures answer { result ≡ own_lot self.entry }
     {
         self.table.lots[self.number]
     }
@@ -41,16 +42,15 @@ impl Candidate<'_> {
     // Whether the lot of a number is another, cannot be out by the est of this one, and must be out
     // by a minute.
     fn is_in_cut(self, number: usize, lot: &Lot, minute: u16) -> bool
-        ensures answer { result
-            ≡ in_cut self.entry.number (lot_at self.entry.table.lots.now self.entry.number).est
-            minute number lot.now }
+        ensures answer { let est = (own_lot self.entry).est in
+            result ≡ is_in_cut self.entry.number est minute number lot.now }
     {
         number != self.number && u32::from(self.lot().est) < lot.ect() && lot.lct <= minute
     }
 
-    // The lots of which that holds.
+    // The lots of the table of which that holds.
     fn cut(self, minute: u16) -> ArrayVec<Lot, MAX_LOTS>
-        ensures answer { result.items ≡ the_cut self.entry.table.lots.now self.entry.number minute }
+        ensures answer { result.items ≡ cut_of self.entry minute }
     {
         chosen(
             self.table,
@@ -64,11 +64,10 @@ impl Candidate<'_> {
     fn grow(self, profile: &mut Profile<'_>, end: End) -> bool
         requires table { profile.old.table ≡ self.table }
         requires lowest { Lowest self.table.lots.now end }
-        requires before { MarksBefore self.table.lots.now self.number end.lct profile.old.added }
+        requires before { MarksCutBefore self end.lct profile.old.added }
         ensures table { profile.new.table ≡ self.entry.table }
-        ensures cut { Marks self.entry.table.lots.now self.entry.number end.lct profile.new.added }
-        ensures grown { result
-            ≡ has end.lct (ends_of (the_cut self.entry.table.lots.now self.entry.number end.lct)) }
+        ensures cut { MarksCut self.entry end.lct profile.new.added }
+        ensures grown { result ≡ has end.lct (ends_of (cut_of self.entry end.lct)) }
     {
         let lots = self.table.lots;
         let mut grown = false;
@@ -82,17 +81,14 @@ impl Candidate<'_> {
         grown
     }
 
-    // The bound that a latest end puts on its est. 0 where it puts none, which is no bound, and so
-    // no `Option`.
+    // The bound that a latest end puts on its est; 0 where it puts none.
     fn bound_at(self, profile: &mut Profile<'_>, end: End) -> u16
         requires table { profile.old.table ≡ self.table }
         requires lowest { Lowest self.table.lots.now end }
-        requires before { MarksBefore self.table.lots.now self.number end.lct profile.old.added }
+        requires before { MarksCutBefore self end.lct profile.old.added }
         ensures table { profile.new.table ≡ self.entry.table }
-        ensures cut { Marks self.entry.table.lots.now self.entry.number end.lct profile.new.added }
-        ensures bound { result
-            ≡ end_bound self.entry.table.capacity self.entry.table.lots.now self.entry.number
-            end.lct }
+        ensures cut { MarksCut self.entry end.lct profile.new.added }
+        ensures bound { result ≡ bound_at_end self.entry end.lct }
     {
         if !self.grow(profile, end) {
             return 0;
@@ -106,14 +102,11 @@ impl Candidate<'_> {
         least_end(self.cut(end.lct).as_slice()) as u16
     }
 
-    // The greatest bound that the latest ends put on its est. 0 without ends, which is no bound,
-    // and so no `Option`. The cut up to a later end has all lots of an earlier one, so one profile
-    // grows from end to end.
+    // The greatest bound that the latest ends put on its est; 0 without ends. The cut up to a later
+    // end has all lots of an earlier one, so one profile grows from end to end.
     fn bound(self, ends: &[End]) -> u16
         requires all { DistinctEnds self.table.lots.now ends.now }
-        ensures answer { result
-            ≡ greatest_end_bound self.entry.table.capacity self.entry.table.lots.now
-            self.entry.number (end_minutes ends.now) }
+        ensures answer { result ≡ bound_over_ends self.entry (end_minutes ends.now) }
     {
         let mut profile = Profile::new(self.table);
         let mut bound = 0;
@@ -124,14 +117,12 @@ impl Candidate<'_> {
     }
 }
 
-// The new bounds of the lots, by number.
+// The new bounds of the lots, by number; 0 past the last lot.
 fn bounds_of(table: Table<'_>, ends: &[End]) -> [u16; MAX_LOTS]
     requires all { DistinctEnds table.lots.now ends.now }
-    ensures answer { (i : ℕ) → i < length table.entry.lots.now
-        → slice_index result i
-        ≡ greatest_end_bound table.entry.capacity table.entry.lots.now i (end_minutes ends.now) }
+    ensures answer { let T = table.entry.lots.now in (i : ℕ) → i < length T → slice_index result i
+        ≡ greatest_end_bound table.entry.capacity T i (end_minutes ends.now) }
 {
-    // An array: 0 past the last lot is no bound.
     let mut bounds = [0; MAX_LOTS];
     for (number, _) in table.lots.iter().enumerate() {
         bounds[number] = Candidate { table, number }.bound(ends);
@@ -139,11 +130,13 @@ fn bounds_of(table: Table<'_>, ends: &[End]) -> [u16; MAX_LOTS]
     bounds
 }
 
+/// The rule not-first: a lot that cannot start before some lot of a cut has ended starts at the
+/// least ect in that cut, or later (docs/RULES.md, "Not-first").
 #[derive(Clone, Copy, Default, Debug)]
 pub struct NotFirst;
 
 impl Rule for NotFirst {
-    ghost meaning = { λ _. starts_after_some };
+    ghost meaning = { λ _. not_first };
 
     ghost sound = { λ x. not_first_sound };
 

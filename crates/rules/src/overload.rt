@@ -1,8 +1,8 @@
-//! Dead where some lots that must all be out by a minute are overfull.
+//! The rule overload: dead where the lots that must all be out by some minute are overfull.
 ghost use Rattle.std.specs.Prelude.{◌≡◌};
-ghost use Rattle.rules.specs.Chosen.{overfull};
+ghost use Rattle.rules.specs.Chosen.{is_overfull as overfull};
 ghost use Rattle.rules.specs.Private.Ends.{end_minutes};
-ghost use Rattle.rules.specs.Overload.{due, some_overfull as overfull_at_some, overload as dead_if_overfull};
+ghost use Rattle.rules.specs.Overload.{due_lots, some_overfull as overfull_at_some, overload};
 ghost use Rattle.rules.specs.Laws.OverloadSound.{overload_sound};
 
 use crate::chosen::{chosen, is_overfull};
@@ -10,12 +10,14 @@ use crate::ends::{End, distinct_ends};
 use lots::{Lot, Refusal, Table};
 use rule::{Rule, Verdict};
 
+/// The rule overload: dead where the lots that must all be out by some latest end are overfull, and
+/// still else (docs/RULES.md, "Overload").
 #[derive(Clone, Copy, Default, Debug)]
 pub struct Overload;
 
 // Whether the lots that must be out by a minute are overfull.
 fn overfull_by(table: Table<'_>, minute: u16) -> bool
-    ensures answer { result ≡ overfull table.entry.capacity (due minute table.entry.lots.now) }
+    ensures answer { result ≡ overfull table.entry.capacity (due_lots minute table.entry.lots.now) }
 {
     let due = chosen(table, |_, lot| lot.lct <= minute);
     is_overfull(Table {
@@ -26,14 +28,14 @@ fn overfull_by(table: Table<'_>, minute: u16) -> bool
 
 // Whether, for some of the ends, the lots that must be out by then are overfull.
 fn some_overfull(table: Table<'_>, ends: &[End]) -> bool
-    ensures answer { result
-        ≡ overfull_at_some table.entry.capacity table.entry.lots.now (end_minutes ends.now) }
+    ensures answer { let minutes = end_minutes ends.now in
+        result ≡ overfull_at_some table.entry.capacity table.entry.lots.now minutes }
 {
     ends.iter().any(|end| overfull_by(table, end.lct))
 }
 
 impl Rule for Overload {
-    ghost meaning = { λ _. dead_if_overfull };
+    ghost meaning = { λ _. overload };
 
     ghost sound = { λ x. overload_sound };
 

@@ -1,21 +1,20 @@
 //! The rule time-table: a lot starts after the minutes at which it does not fit beside the fixed
 //! parts of the others.
-ghost use Rattle.std.specs.Prelude.{◌≡◌, ℕ, ◌<◌, length, nat_lt, slice_index};
+ghost use Rattle.std.specs.Prelude.{◌≡◌, ℕ, ◌<◌, length, slice_index};
 ghost use Rattle.lots.specs.Limits.{horizon, max_capacity};
-ghost use Rattle.lots.specs.Tables.{ect as earliest_end, LawfulLot};
-ghost use Rattle.rules.specs.TimeTable.{fixed as fixed_part, fixed_load, some_below, after_last, bound_of, time_table as raises_past_blocked};
-ghost use Rattle.rules.specs.Private.Loads.{blocked_under};
+ghost use Rattle.lots.specs.Tables.{ect, LawfulLot};
+ghost use Rattle.rules.specs.TimeTable.{fixed_trays, fixed_load, some_passes, after_last, bound_of, time_table};
 ghost use Rattle.rules.specs.Laws.TimeTables.{time_table_sound};
 
 use lots::{HORIZON, Lot, MAX_LOTS, Refusal, Table};
 use rule::{Rule, Verdict, raise};
 
-// How many minutes the week has. By `as`, since a constant can call no `From`.
+// How many minutes the week has.
 const MINUTES: usize = HORIZON as usize;
 
 // The trays that the lot holds at a minute, whenever it starts.
 fn fixed_at(lot: Lot, minute: u32) -> u16
-    ensures answer { result ≡ fixed_part lot minute }
+    ensures answer { result ≡ fixed_trays lot minute }
 {
     if u32::from(lot.lst()) <= minute && minute < lot.ect() {
         lot.c
@@ -34,13 +33,15 @@ struct Loads<'a> {
 }
 
 impl<'a> Loads<'a> {
+    ghost use Rattle.rules.specs.Private.Loads.{is_blocked_under};
+
+    // The loads of a table.
     fn of(table: Table<'a>) -> Loads<'a>
         ensures answer { result.table ≡ table.entry }
     {
         let mut by_minute = [0; MINUTES];
         for lot in table.lots {
-            // By number: a lot may have no fixed part, its lst past its ect, and then there is no
-            // part of a slice to go through.
+            // By number, since the lst of a lot with no fixed part may lie past its ect.
             for minute in u32::from(lot.lst())..lot.ect() {
                 by_minute[minute as usize] += lot.c;
             }
@@ -50,23 +51,18 @@ impl<'a> Loads<'a> {
 
     // Whether the load passes the capacity at some minute.
     fn some_passes(&self) -> bool
-        ensures answer { result
-            ≡ some_below
-            (λ t. nat_lt self.now.table.capacity (fixed_load self.now.table.lots.now t)) horizon }
+        ensures answer { result ≡ some_passes self.now.table.capacity self.now.table.lots.now }
     {
         self.by_minute
             .iter()
             .any(|load| *load > self.table.capacity)
     }
 
-    // The minute after the last at which the lot, started at its est, does not fit beside the fixed
-    // parts of the others. 0 where there is none, which is no bound, and so no `Option`. The lot is
-    // given alone, so that it is lawful is asked.
+    // The minute after the last at which a lot of the table, started at its est, does not fit
+    // beside the fixed parts of the others; 0 where there is none.
     fn bound(&self, lot: Lot) -> u16
         requires lawful { LawfulLot max_capacity lot }
-        ensures answer { result
-            ≡ after_last (blocked_under self.now.by_minute self.now.table.capacity lot)
-            (earliest_end lot) }
+        ensures answer { result ≡ after_last (is_blocked_under self.now lot) (ect lot) }
     {
         (u32::from(lot.est)..lot.ect())
             .rev()
@@ -77,12 +73,11 @@ impl<'a> Loads<'a> {
             .map_or(0, |minute| (minute + 1) as u16)
     }
 
-    // The new bounds of the lots, by number.
+    // The new bounds of the lots, by number; 0 past the last lot.
     fn bounds(&self) -> [u16; MAX_LOTS]
-        ensures answer { (j : ℕ) → j < length self.now.table.lots.now
-            → slice_index result j ≡ bound_of self.now.table.capacity self.now.table.lots.now j }
+        ensures answer { let table = self.now.table in (j : ℕ) → j < length table.lots.now
+            → slice_index result j ≡ bound_of table.capacity table.lots.now j }
     {
-        // An array: 0 past the last lot is no bound.
         let mut bounds = [0; MAX_LOTS];
         for (number, lot) in self.table.lots.iter().enumerate() {
             bounds[number] = self.bound(*lot);
@@ -91,16 +86,18 @@ impl<'a> Loads<'a> {
     }
 }
 
+/// The rule time-table: each lot starts after its last minute, before its ect, at which it does not
+/// fit beside the fixed parts of the others. Dead where the fixed parts of one minute pass the
+/// capacity (docs/RULES.md, "Time-table").
 #[derive(Clone, Copy, Default, Debug)]
 pub struct TimeTable;
 
 impl Rule for TimeTable {
-    ghost meaning = { λ _. raises_past_blocked };
+    ghost meaning = { λ _. time_table };
 
     ghost sound = { λ x. time_table_sound };
 
-    // Not inlined: a caller would keep the loads of the week's minutes on its own stack, and a pile
-    // once for each level.
+    // Not inlined: a pile would keep the loads of the week on its stack once for each level.
     #[inline(never)]
     fn apply(&self, capacity: u16, lots: &mut [Lot]) -> Result<Verdict, Refusal> {
         let table = Table::new(capacity, lots)?;

@@ -10,12 +10,14 @@ use Rattle.elastic.specs.Profile.{creq, minutes, points, points_of_a_lot, has}
 use Rattle.row.specs.Rows.{Ascending}
 use Rattle.elastic.specs.declared.profile.Point.{Point}
 
+-- the most points of a table
 abbrev pub max_points : ℕ
 max_points = points_of_a_lot * max_lots
 
 abbrev pub minutes_of : List Point → List ℕ
 minutes_of ps = map (λ p. p.minute) ps
 
+-- the minutes are in strict order
 abbrev pub Rising : List Point → Type 0
 Rising ps = Ascending nat_cmp_total (λ p. p.minute) ps
 
@@ -47,15 +49,18 @@ point_at ps i = slice_index_or ps i no_point
 
 -- the point p with the changes of e added to its own
 abbrev pub changed_point : Point → Point → Point
-changed_point p e = record p { available = p.available +ℤ e.available; required = p.required +ℤ e.required }
+changed_point p e =
+    record p { available = p.available +ℤ e.available; required = p.required +ℤ e.required }
 
 -- qs are the points ps with the changes of e entered at its minute
 pub record Entered (ps : List Point) (e : Point) (qs : List Point) : Type 0 where
   pub rising : Rising qs
   pub count : length qs ≡ length ps + (if has e.minute (minutes_of ps) then 0 else 1)
   pub at : (t : ℕ) → has t (minutes_of qs) ≡ (t == e.minute || has t (minutes_of ps))
-  pub available : (t : ℕ) → available_upto qs t ≡ available_upto ps t +ℤ (if nat_le e.minute t then e.available else pos 0)
-  pub required : (t : ℕ) → required_upto qs t ≡ required_upto ps t +ℤ (if nat_le e.minute t then e.required else pos 0)
+  pub available : (t : ℕ)
+      → available_upto qs t ≡ available_upto ps t +ℤ (if nat_le e.minute t then e.available else pos 0)
+  pub required : (t : ℕ)
+      → required_upto qs t ≡ required_upto ps t +ℤ (if nat_le e.minute t then e.required else pos 0)
   pub small : (a b : ℕ) → AllByRecursion (Small a) ps → Small b e → AllByRecursion (Small (a + b)) qs
 
 -- the changes that a lot brings at its est, ect and lct

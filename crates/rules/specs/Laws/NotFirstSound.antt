@@ -15,8 +15,8 @@ use Rattle.elastic.proofs.Soundness.{overflow_of_schedulable}
 use Rattle.lots.proofs.Schedules.{placed_append}
 use Rattle.rule.specs.Meanings.{Sound}
 use Rattle.rule.specs.Laws.Raises.{raise_lawful, raise_narrows, raise_keeps, raise_dies}
-use Rattle.rules.specs.Chosen.{chosen, overfull}
-use Rattle.rules.specs.NotFirst.{in_cut, cut, least_ect, with_stand_in, bound_by, greatest_bound, not_first}
+use Rattle.rules.specs.Chosen.{chosen_lots, is_overfull}
+use Rattle.rules.specs.NotFirst.{is_in_cut, cut, least_ect, cut_with_stand_in, bound_by, greatest_bound, not_first}
 use Rattle.rules.specs.Laws.ChosenLots.{chosen_starts, load_cond, chosen_placed, chosen_load, chosen_schedule}
 
 load_append : (t : ℕ) (xs ys : List Lot) (ss us : List ℕ) → Placed xs ss → load t (xs ++ ys) (ss ++ us) ≡ load t xs ss + load t ys us
@@ -37,17 +37,17 @@ load_later t u (x ∷ xs) (s ∷ ss) h a p =
 
 -- a lot that was not chosen runs beside those that were
 module _ (test : ℕ → Lot → Bool) (t : ℕ) where
-  load_beside : (k i : ℕ) (T : List Lot) (ss : List ℕ) → Placed T ss → i < length T → test (k + i) (lot_at T i) ≡ false → spans (slice_index ss i) (slice_index ss i + (lot_at T i).p) t ≡ true → load t (chosen test k T) (chosen_starts test k T ss) + (lot_at T i).c ≤ load t T ss
+  load_beside : (k i : ℕ) (T : List Lot) (ss : List ℕ) → Placed T ss → i < length T → test (k + i) (lot_at T i) ≡ false → spans (slice_index ss i) (slice_index ss i + (lot_at T i).p) t ≡ true → load t (chosen_lots test k T) (chosen_starts test k T ss) + (lot_at T i).c ≤ load t T ss
   load_beside k i [] ss p h out here = absurd (omega arith)
   load_beside k i (x ∷ xs) [] p h out here = absurd p
   load_beside k zero (x ∷ xs) (s ∷ ss) p h out here =
       let none = subst (λ n. test n x ≡ false) (add-zero k) out in
-      let left = ap (λ b. load t (if b then x ∷ chosen test (suc k) xs else chosen test (suc k) xs) (if b then s ∷ chosen_starts test (suc k) xs ss else chosen_starts test (suc k) xs ss)) none in
+      let left = ap (λ b. load t (if b then x ∷ chosen_lots test (suc k) xs else chosen_lots test (suc k) xs) (if b then s ∷ chosen_starts test (suc k) xs ss else chosen_starts test (suc k) xs ss)) none in
       let runs = ap (λ b. if b then x.c else 0) here in
       omega (arith, left, runs, chosen_load test t (suc k) xs ss p.1)
   load_beside k (suc i) (x ∷ xs) (s ∷ ss) p h out here =
       let rest = load_beside (suc k) i xs ss p.1 (omega arith) (subst (λ n. test n (lot_at xs i) ≡ false) (omega arith) out) here in
-      omega (arith, load_cond test t (test k x) x s (chosen test (suc k) xs) (chosen_starts test (suc k) xs ss), rest)
+      omega (arith, load_cond test t (test k x) x s (chosen_lots test (suc k) xs) (chosen_starts test (suc k) xs ss), rest)
 
 placed_start : (T : List Lot) (ss : List ℕ) (i : ℕ) → i < length T → Placed T ss → ((lot_at T i).est ≤ slice_index ss i) × (slice_index ss i + (lot_at T i).p ≤ (lot_at T i).lct)
 placed_start [] ss i h p = absurd (omega arith)
@@ -66,13 +66,13 @@ span_below a b v e = grind (arith, nat_tests)
 runs_at : (s p t : ℕ) → s ≤ t → t < s + p → spans s (s + p) t ≡ true
 runs_at s p t h k = grind (arith, nat_tests)
 
-own_test : (T : List Lot) (i t : ℕ) → in_cut i (lot_at T i).est t i (lot_at T i) ≡ false
+own_test : (T : List Lot) (i t : ℕ) → is_in_cut i (lot_at T i).est t i (lot_at T i) ≡ false
 own_test T i t = ap (λ b. not b && (nat_lt (lot_at T i).est (ect (lot_at T i)) && nat_le (lot_at T i).lct t)) (eq-eqb i i refl)
 
 -- a schedule in which i starts before every ect of the cut gives one of the cut with its stand-in
 module _ (C : ℕ) (T : List Lot) (ok : Lawful C T) (ss : List ℕ) (s : Schedule C T ss) (i : ℕ) (h : i < length T) (t : ℕ) (early : slice_index_or ss i 0 < least_ect (cut T i t)) where
   abbrev test : ℕ → Lot → Bool
-  test = in_cut i (lot_at T i).est t
+  test = is_in_cut i (lot_at T i).est t
 
   abbrev Ω : List Lot
   Ω = cut T i t
@@ -100,31 +100,31 @@ module _ (C : ℕ) (T : List Lot) (ok : Lawful C T) (ss : List ℕ) (s : Schedul
         omega (arith, there, s.within v)
   ]
 
-  abbrev guest : Lot
-  guest = stand_in_lot (lot_at T i).c m Ω
+  abbrev own_stand_in : Lot
+  own_stand_in = stand_in_lot (lot_at T i).c m Ω
 
   load_with : (v : ℕ) (b : Bool) → spans (earliest Ω) (earliest Ω + (m - earliest Ω)) v ≡ b → earliest Ω < m → load v Ω us + ((if b then (lot_at T i).c else 0) + 0) ≤ C
   load_with v true e k = omega (arith, beside v (omega (arith, span_below (earliest Ω) (earliest Ω + (m - earliest Ω)) v e)))
   load_with v false e k = omega (arith, chosen_load test v 0 T ss s.placed, s.within v)
 
-  scheduled : (b : Bool) → nat_le m (earliest Ω) ≡ b → (ws : List ℕ) × Schedule C (Ω ++ (if b then [] else guest ∷ [])) ws
+  scheduled : (b : Bool) → nat_le m (earliest Ω) ≡ b → (ws : List ℕ) × Schedule C (Ω ++ (if b then [] else own_stand_in ∷ [])) ws
   scheduled true e = (us, subst (λ xs. Schedule C xs us) (sym (append-nil Ω)) (chosen_schedule test C T ss s))
   scheduled false e =
       let later = leb-false m (earliest Ω) e in (
         us ++ (earliest Ω ∷ []),
         record {
-          placed = placed_append Ω (guest ∷ []) us (earliest Ω ∷ []) placed_Ω ((omega arith, omega arith), tt);
-          within = λ v. omega (arith, load_append v Ω (guest ∷ []) us (earliest Ω ∷ []) placed_Ω, load_with v (spans (earliest Ω) (earliest Ω + (m - earliest Ω)) v) refl later);
+          placed = placed_append Ω (own_stand_in ∷ []) us (earliest Ω ∷ []) placed_Ω ((omega arith, omega arith), tt);
+          within = λ v. omega (arith, load_append v Ω (own_stand_in ∷ []) us (earliest Ω ∷ []) placed_Ω, load_with v (spans (earliest Ω) (earliest Ω + (m - earliest Ω)) v) refl later);
         },
       )
 
-  not_overfull : overfull C (with_stand_in T i t) ≡ true → ⊥
+  not_overfull : is_overfull C (cut_with_stand_in T i t) ≡ true → ⊥
   not_overfull full =
       let found = scheduled (nat_le m (earliest Ω)) refl in
-      omega (arith, ltb-true 0 (overflow C (with_stand_in T i t)) full, overflow_of_schedulable C (with_stand_in T i t) found.0 found.1)
+      omega (arith, ltb-true 0 (overflow C (cut_with_stand_in T i t)) full, overflow_of_schedulable C (cut_with_stand_in T i t) found.0 found.1)
 
 module _ (C : ℕ) (T : List Lot) (ok : Lawful C T) (ss : List ℕ) (s : Schedule C T ss) (i : ℕ) (h : i < length T) where
-  bound_cond : (t : ℕ) (b : Bool) → (b ≡ true → overfull C (with_stand_in T i t) ≡ true) → (if b then least_ect (cut T i t) else 0) ≤ slice_index ss i
+  bound_cond : (t : ℕ) (b : Bool) → (b ≡ true → is_overfull C (cut_with_stand_in T i t) ≡ true) → (if b then least_ect (cut T i t) else 0) ≤ slice_index ss i
   bound_cond t true full = elim (cases_lt (slice_index ss i) (least_ect (cut T i t))) [
     | inl early ↦ absurd (not_overfull C T ok ss s i h t early (full refl))
     | inr late ↦ late
@@ -133,7 +133,7 @@ module _ (C : ℕ) (T : List Lot) (ok : Lawful C T) (ss : List ℕ) (s : Schedul
 
   bound_kept : (j : ℕ) → bound_by C T i j ≤ slice_index ss i
   bound_kept j =
-      bound_cond (lot_at T j).lct (not (j == i) && (nat_lt (lot_at T i).est (ect (lot_at T j)) && overfull C (with_stand_in T i (lot_at T j).lct)))
+      bound_cond (lot_at T j).lct (not (j == i) && (nat_lt (lot_at T i).est (ect (lot_at T j)) && is_overfull C (cut_with_stand_in T i (lot_at T j).lct)))
       (λ e. (and_parts (nat_lt (lot_at T i).est (ect (lot_at T j))) _ (and_parts (not (j == i)) _ e).1).1)
 
   greatest_kept : (n : ℕ) → greatest_bound C T i n ≤ slice_index ss i

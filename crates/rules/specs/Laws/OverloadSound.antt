@@ -8,18 +8,18 @@ use Rattle.elastic.proofs.Soundness.{overflow_of_schedulable}
 use Rattle.rule.specs.Meanings.{Narrower, LawfulSameWork, Keeps, Hopeless, Sound, dead, to}
 use Rattle.rule.specs.Laws.Outcomes.{gives_either, dies_either}
 use Rattle.rule.specs.Laws.Tables.{same_work_refl, narrower_refl}
-use Rattle.rules.specs.Chosen.{chosen, overfull}
-use Rattle.rules.specs.Overload.{ends_of, due, some_overfull, overload}
+use Rattle.rules.specs.Chosen.{chosen_lots, is_overfull}
+use Rattle.rules.specs.Overload.{ends_of, due_lots, some_overfull, overload}
 use Rattle.rules.specs.Laws.ChosenLots.{chosen_schedule}
 
 -- lots of which some are overfull have no schedule
-overfull_hopeless : (test : ℕ → Lot → Bool) (C : ℕ) (T : List Lot) → overfull C (chosen test 0 T) ≡ true → Hopeless C T
+overfull_hopeless : (test : ℕ → Lot → Bool) (C : ℕ) (T : List Lot) → is_overfull C (chosen_lots test 0 T) ≡ true → Hopeless C T
 overfull_hopeless test C T full ss s =
-    omega (arith, ltb-true 0 (overflow C (chosen test 0 T)) full, overflow_of_schedulable C (chosen test 0 T) _ (chosen_schedule test C T ss s))
+    omega (arith, ltb-true 0 (overflow C (chosen_lots test 0 T)) full, overflow_of_schedulable C (chosen_lots test 0 T) _ (chosen_schedule test C T ss s))
 
 some_hopeless : (C : ℕ) (T : List Lot) (ts : List ℕ) → some_overfull C T ts ≡ true → Hopeless C T
 some_hopeless C T [] h = absurd (false≢true h)
-some_hopeless C T (t ∷ ts) h = elim (or_cases (overfull C (due t T)) (some_overfull C T ts) h) [
+some_hopeless C T (t ∷ ts) h = elim (or_cases (is_overfull C (due_lots t T)) (some_overfull C T ts) h) [
   | inl full ↦ overfull_hopeless (λ k x. nat_le x.lct t) C T full
   | inr more ↦ some_hopeless C T ts more
 ]

@@ -1,4 +1,4 @@
--- The distinct latest ends of a table.
+-- The distinct latest ends of a table, each with the lowest lot that has it.
 use Rattle.std.specs.Prelude.{◌≡◌, ℕ, ◌<◌, List, map, length, ◌≢◌}
 use Rattle.std.specs.Cmp.{nat_cmp_total}
 use Rattle.std.specs.List.{AllByRecursion}
@@ -9,6 +9,7 @@ use Rattle.row.specs.Rows.{Ascending}
 use Rattle.rules.specs.Overload.{ends_of}
 use Rattle.rules.specs.declared.ends.End.{End}
 
+-- the minutes of some ends
 abbrev pub end_minutes : List End → List ℕ
 end_minutes es = map (λ x. x.lct) es
 

@@ -1,4 +1,4 @@
--- What a test answers that is passed to a function.
+-- A test of lots that is passed to a function, and what it answers.
 use Rattle.std.specs.Prelude.{ℕ, Bool, ◌≡◌}
 use Rattle.std.specs.Borrow.{Bor}
 use Rattle.lots.specs.declared.Lot.{Lot}

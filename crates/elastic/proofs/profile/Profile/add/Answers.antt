@@ -1,7 +1,7 @@
 use Rattle.std.proofs.Common.{◌<◌, length, sym, subst, arith}
 use Rattle.lots.proofs.Tables.{lawful_under_most}
 use Rattle.elastic.specs.Private.Points.{Profiles}
-use Rattle.elastic.proofs.Marked.{those_more, some_missing}
+use Rattle.elastic.proofs.Marked.{marked_lots-set, some_missing}
 use Rattle.elastic.proofs.profile.Profile.add.Goals as goal
 
 pub add-requires-clause-profile : goal.add-requires-clause-profile
@@ -15,5 +15,5 @@ invariant_of-self c =
     let p = c.args.self.now in
     let lawful = lawful_under_most _ _ p.table.lawful in
     let marks : c.args.number < length p.added = omega (arith, c.if-number-lots.true, lawful.few_lots) in
-    let r = those_more p.added p.table.lots.now c.args.number c.if-number-lots.true marks c.if-not-self-number.true in
+    let r = marked_lots-set p.added p.table.lots.now c.args.number c.if-number-lots.true marks c.if-not-self-number.true in
     record { profiles = subst (Profiles _) (sym r.with_it) (c.add.ensures.after _ _ (subst (Profiles _) r.without p.profiles)) }

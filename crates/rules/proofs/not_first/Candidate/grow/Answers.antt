@@ -2,7 +2,7 @@ use Rattle.std.proofs.Common.{◌≡◌, ◌<◌, ◌&&◌, eqb, false, length, 
 use Rattle.std.proofs.lemmas.Bool.{and_from, and_left, and_right, eq-eqb, ne_eqb}
 use Rattle.lots.specs.Tables.{lot_at}
 use Rattle.lots.specs.declared.table.Table.{Table}
-use Rattle.rules.specs.NotFirst.{in_cut}
+use Rattle.rules.specs.NotFirst.{is_in_cut}
 use Rattle.rules.proofs.GrowingCuts.{growing_from, growing_added, growing_skipped, no_end_yet, end_comes, end_stays}
 use Rattle.rules.proofs.not_first.Candidate.grow.Goals as goal
 use Rattle.rules.proofs.not_first.Candidate.grow.Goals.{then-lot-end+then-is_in_cut, else-lot-end, else-lot-end-via-then-lot-end+else-is_in_cut, else-lot-end-via-else-lot-end}
@@ -14,7 +14,7 @@ loop-number-init c =
     record {
       table = c.requires.table;
       growing = growing_from T self.number c.args.end c.requires.lowest _ c.requires.before;
-      grown = sym (no_end_yet T self.number c.args.end c.requires.lowest (in_cut self.number (lot_at T self.number).est c.args.end.lct) c.args.end.lot (omega arith));
+      grown = sym (no_end_yet T self.number c.args.end c.requires.lowest (is_in_cut self.number (lot_at T self.number).est c.args.end.lct) c.args.end.lot (omega arith));
     }
 
 pub loop-number-preserved : goal.loop-number-preserved
@@ -24,7 +24,7 @@ loop-number-preserved c =
     let t = c.args.end.lct in
     let n = c.loop-number.number in
     let before = c.loop-number.invariant in
-    let test = in_cut self.number (lot_at T self.number).est t in
+    let test = is_in_cut self.number (lot_at T self.number).est t in
     elim c.if-lot-end.branch [
       | then-lot-end+then-is_in_cut w ↦
           let passed = sym w.is_in_cut.ensures.answer ∙ w.if-is_in_cut.true in
