@@ -17,7 +17,8 @@ abbrev pub Refused : List Check → Refusal → Type 0
 Refused [] e = ⊥
 Refused (k ∷ ks) e = (k.applies × (e ≡ k.refusal)) ⊎ ((k.applies → ⊥) × Refused ks e)
 
--- an answer behind checks: the first that applies is given, and then Q holds; where none applies, P holds of the answer
+-- an answer behind checks: the first that applies is the refusal, and then Q holds; where none applies, P holds
+-- of what is answered
 abbrev pub Checked : {X : Type 0} → List Check → Type 0 → (X → Type 0) → Result X Refusal → Type 0
 Checked ks Q P (Ok x) = Passed ks × P x
 Checked ks Q P (Err e) = Refused ks e × Q

@@ -1,7 +1,7 @@
 -- The numbers that bound every table.
 use Rattle.std.specs.Prelude.{ℕ}
 
--- the last minute of the week, at which every lot is out
+-- the last minute of the week: every lot is out by then
 abbrev pub horizon : ℕ
 horizon = 10080
 

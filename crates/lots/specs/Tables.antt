@@ -4,15 +4,15 @@ use Rattle.std.specs.List.{AllByRecursion}
 use Rattle.lots.specs.Limits.{horizon, max_capacity, max_lots}
 use Rattle.lots.specs.declared.Lot.{Lot}
 
--- the earliest minute at which a lot can be out
+-- est + p, the earliest minute at which a lot can be out
 abbrev pub ect : Lot → ℕ
 ect x = x.est + x.p
 
--- the latest minute at which a lot can go in
+-- lct − p, and 0 where the run is longer than lct: the latest minute at which a lot that fits can go in
 abbrev pub lst : Lot → ℕ
 lst x = x.lct - x.p
 
--- no lot: four zeros
+-- the lot of four zeros, which stands where there is none
 abbrev pub blank : Lot
 blank = record { est = 0; lct = 0; p = 0; c = 0 }
 
@@ -39,7 +39,7 @@ pub record Lawful (C : ℕ) (T : List Lot) : Type 0 where
   pub few_lots : length T ≤ max_lots
   pub each : AllByRecursion (LawfulLot C) T
 
--- a capacity and lots as one value, lawful or not
+-- a capacity and lots as one value, lawful or not; the `Table` of the code is a lawful one
 pub record Table : Type 0 where
   pub capacity : ℕ
   pub lots : List Lot

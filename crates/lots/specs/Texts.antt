@@ -1,4 +1,4 @@
--- How the formats write numbers, and what reading answers.
+-- How the formats write numbers.
 use Rattle.std.specs.Prelude.{ℕ, List, ◌++◌, codes, decimal}
 use Rattle.std.specs.List.{flat_map}
 

@@ -9,51 +9,58 @@ mod table;
 
 pub use table::Table;
 
-/// The last minute of the week, at which every lot is out.
+/// The last minute of the week: every lot is out by then.
 pub const HORIZON: u16 = 10_080;
 /// The most trays that a machine may have.
 pub const MAX_CAPACITY: u16 = 200;
 /// The most lots that a table may have.
 pub const MAX_LOTS: usize = 64;
 
-/// One lot of goods: it may go in at `est`, must be out by `lct`, runs for `p` minutes on `c` trays.
+/// One lot of goods, lawful or not (docs/RULES.md, "Lots, tables and schedules").
 #[derive(Clone, Copy, PartialEq, Eq, Default, Debug)]
 pub struct Lot {
+    /// The earliest start: the minute from which it may go in.
     pub est: u16,
+    /// The latest completion: the minute by which it must be out.
     pub lct: u16,
+    /// How many minutes it runs.
     pub p: u16,
+    /// How many trays it takes.
     pub c: u16,
 }
 
 impl Lot {
+    /// The lot of these four numbers, whatever they are.
     pub const fn new(est: u16, lct: u16, p: u16, c: u16) -> Lot
         ensures answer { (result.est ≡ est) × (result.lct ≡ lct) × (result.p ≡ p) × (result.c ≡ c) }
     {
         Lot { est, lct, p, c }
     }
 
-    /// The earliest minute at which the lot can be out.
+    /// Est + p: the earliest minute at which the lot can be out.
     pub fn ect(&self) -> u32
         ensures answer { result ≡ earliest_end self.now }
     {
         u32::from(self.est) + u32::from(self.p)
     }
 
-    /// The latest minute at which the lot can go in, and 0 where it never can.
+    /// Lct − p, and 0 where the run is longer than lct. It is the latest minute at which a lot that
+    /// fits its window can go in; whether it fits is for `fits` to say.
     pub fn lst(&self) -> u16
         ensures answer { result ≡ latest_start self.now }
     {
         self.lct.saturating_sub(self.p)
     }
 
-    /// Whether the run fits the window.
+    /// Whether the run fits the window: est + p is at most lct.
     pub fn fits(&self) -> bool
         ensures answer { IsTrue result ↔ (earliest_end self.now ≤ self.now.lct) }
     {
         self.ect() <= u32::from(self.lct)
     }
 
-    /// Whether the lot is lawful in a table of this capacity.
+    /// Whether the lot is lawful in a table of this capacity: it runs, it takes trays and no more
+    /// than there are, its run fits its window, and its window ends in the week.
     pub fn is_lawful(&self, capacity: u16) -> bool
         ensures answer { IsTrue result ↔ LawfulLot capacity self.now }
     {
@@ -61,8 +68,7 @@ impl Lot {
     }
 }
 
-/// Whether capacity and lots are a lawful table. They come apart, since only what is lawful is a
-/// `Table`.
+/// Whether a capacity and lots are a lawful table (docs/RULES.md, "Lots, tables and schedules").
 pub fn is_lawful(capacity: u16, lots: &[Lot]) -> bool
     ensures answer { IsTrue result ↔ Lawful capacity lots.now }
 {
@@ -78,24 +84,41 @@ pub fn is_lawful(capacity: u16, lots: &[Lot]) -> bool
     true
 }
 
-/// Why a call refuses. The numbers are part of every format that names a refusal.
+/// Why a call refuses (docs/REFUSALS.md). Every format names a refusal by its number, which never
+/// changes.
 #[derive(Clone, Copy, PartialEq, Eq, Debug)]
 pub enum Refusal {
+    /// 1, of open: the capacity is 0 or above `MAX_CAPACITY`.
     Capacity = 1,
+    /// 2, of admit: `MAX_LOTS` lots are in.
     TableFull = 2,
+    /// 3, of admit: the lot takes no tray, or more than the capacity.
     Trays = 3,
+    /// 4, of admit: the lot runs for 0 minutes.
     Run = 4,
+    /// 5, of admit: est + p is above lct, or lct is above `HORIZON`.
     Window = 5,
+    /// 6, of narrow: no lot has this number.
     NoSuchLot = 6,
+    /// 7, of narrow: the span ends before it begins, or past `HORIZON`.
     Span = 7,
+    /// 8, of narrow: the lot's run does not fit what would be left of its window.
     NoRoom = 8,
+    /// 9, of `Table::new`, every rule, settle and overflow: the table is not lawful.
     Unlawful = 9,
+    /// 10, of solve: the budget is 0.
     Budget = 10,
+    /// 11, of solve: the trail has fewer than n × n + n cells, for n lots.
     Trail = 11,
+    /// 12, of solve: there are fewer than n places for starts, for n lots.
     Starts = 12,
+    /// 13, of a sheet: the print buffer is too short.
     PrintBuffer = 13,
+    /// 14, of a sheet: it is too long.
     SheetLength = 14,
+    /// 15, of a line of a sheet: it is not of the form that is due there.
     Line = 15,
+    /// 16, of a line of a sheet: it is one command more than a sheet may have.
     Commands = 16,
 }
 
@@ -111,7 +134,6 @@ impl From<Refusal> for u8 {
 mod tests {
     use super::*;
 
-    // Field by field: a constant can call no function.
     const WEEK: Lot = Lot {
         est: 0,
         lct: HORIZON,
@@ -177,7 +199,7 @@ mod tests {
     }
 
     #[test]
-    fn a_run_longer_than_its_window_can_never_go_in(rt: HostRuntime) {
+    fn a_latest_start_is_0_where_the_run_is_longer_than_lct(rt: HostRuntime) {
         assert_eq!(rt;
             Lot {
                 lct: 9,

@@ -1,15 +1,18 @@
--- What an application leaves.
+-- What an application leaves, and two of them one after the other.
 use Rattle.std.specs.Prelude.{◌≡◌, ℕ, List, Ok, Err, Result, ◌≢◌, refl}
 use Rattle.std.proofs.Common.{sym, ap, subst, ◌∙◌}
 use Rattle.lots.specs.Tables.{Lawful}
 use Rattle.lots.specs.declared.Lot.{Lot}
 use Rattle.lots.specs.declared.Refusal.{Refusal}
-use Rattle.rule.specs.Meanings.{Meaning, dead, to, Sound, Applied, Narrower, LawfulSameWork}
+use Rattle.rule.specs.Meanings.{Meaning, Outcome, to, Gives, Sound, Applied, Narrower, LawfulSameWork}
 use Rattle.rule.specs.declared.Verdict.{Verdict}
 use Rattle.rule.specs.declared.Verdict.TheVariants.{Still, Moved, Dead}
 use Rattle.rule.specs.Both.{and_then, both}
 use Rattle.rule.proofs.Tables.{narrower_antisym}
-use Rattle.rule.specs.Laws.Outcomes.{gives_at}
+
+-- what holds of an outcome holds of the table that it is
+pub gives_at : (o : Outcome) (P : List Lot → Type 0) (U : List Lot) → o ≡ to U → Gives o P → P U
+gives_at o P U e h = subst (λ v. Gives v P) e h
 
 -- an application that is not dead: the table after it is the rule's
 pub applied_to : (m : Meaning) (C : ℕ) (T U : List Lot) (v : Verdict) → (v ≢ Dead) → Applied m C T U (Ok v) → Lawful C T × (m C T ≡ to U)

@@ -8,7 +8,8 @@ use Rattle.rule.specs.Meanings.{Meaning, Outcome, dead, to, Gives, Dies, SameWor
 use Rattle.rule.specs.Settled.{Moves, none, more, slack, Settled, Settles}
 use Rattle.rule.specs.declared.Verdict.{Verdict}
 use Rattle.rule.specs.declared.Verdict.TheVariants.{Still, Moved, Dead}
-use Rattle.rule.specs.Laws.Outcomes.{gives_weaker, dies_weaker, gives_at}
+use Rattle.rule.specs.Laws.Outcomes.{gives_weaker, dies_weaker}
+use Rattle.rule.proofs.Applications.{gives_at}
 use Rattle.rule.specs.Laws.Tables.{same_work_refl, same_work_trans, narrower_refl, narrower_trans}
 use Rattle.rule.proofs.Tables.{same_work_sym}
 use Rattle.rule.specs.Laws.Schedules.{schedule_same}

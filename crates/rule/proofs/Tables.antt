@@ -1,4 +1,4 @@
--- Tables of the same work, the other way round.
+-- Two tables of the same work: the same the other way round, and equal where neither is wider than the other.
 use Rattle.std.specs.Prelude.{◌≡◌, List, [], ◌∷◌, refl}
 use Rattle.std.proofs.Common.{sym, ap₂, arith}
 use Rattle.std.specs.List.{AllZip}

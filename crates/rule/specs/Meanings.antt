@@ -9,7 +9,7 @@ use Rattle.lots.specs.declared.Refusal.TheVariants.{Unlawful}
 use Rattle.rule.specs.declared.Verdict.{Verdict}
 use Rattle.rule.specs.declared.Verdict.TheVariants.{Still, Moved, Dead}
 
--- a table has no schedule, or it becomes another table, perhaps the same
+-- what becomes of a table: it is dead, having no schedule, or it goes to a table, perhaps the same
 pub data Outcome : Type 0 where
   dead : Outcome
   to : List Lot → Outcome
@@ -61,8 +61,8 @@ IsVerdictOn o T U Still = (o ≡ to T) × (U ≡ T)
 IsVerdictOn o T U Moved = (o ≡ to U) × (U ≢ T)
 IsVerdictOn o T U Dead = (o ≡ dead) × (U ≡ T)
 
--- what an application answers, where T is the table before and U the table after: the verdict on the meaning of a lawful
--- table, and a refusal of any other, which stays
+-- what an application answers, where T is the table before and U the table after: of a lawful table the verdict
+-- on what the rule makes of it, and of any other a refusal, and the table stays
 abbrev pub Applied : Meaning → ℕ → List Lot → List Lot → Result Verdict Refusal → Type 0
 Applied m C T U (Ok v) = Lawful C T × IsVerdictOn (m C T) T U v
 Applied m C T U (Err e) = (Lawful C T → ⊥) × (e ≡ Unlawful) × (U ≡ T)

@@ -6,10 +6,13 @@ use crate::{Rule, Verdict};
 use arrayvec::ArrayVec;
 use lots::{Lot, MAX_LOTS, Refusal};
 
-/// Runs the first, and then the second on its table.
+/// A rule, and then another on the table that the first leaves (docs/RULES.md, "Piles"). It is dead
+/// where either is.
 #[derive(Clone, Copy, Default, Debug)]
 pub struct Both<X, Y> {
+    /// The rule that is applied to the table.
     pub first: X,
+    /// The rule that is applied after it, unless the table is dead by then.
     pub second: Y,
 }
 
@@ -19,8 +22,8 @@ impl<X: Rule, Y: Rule> Rule for Both<X, Y> {
     ghost sound = { λ x. both_sound _ _ (X.Rule.sound x.first) (Y.Rule.sound x.second) };
 
     fn apply(&self, capacity: u16, lots: &mut [Lot]) -> Result<Verdict, Refusal> {
-        // Not as in `settle`: here the rules themselves ask whether the table is lawful, and too
-        // many lots are not copied.
+        // A lawful table has at most as many lots as there is room for. Whether this one is lawful
+        // the rules ask themselves.
         let Ok(before) = ArrayVec::<Lot, MAX_LOTS>::try_from(&*lots) else {
             return Err(Refusal::Unlawful);
         };

@@ -6,9 +6,9 @@ use crate::{Rule, Verdict};
 use arrayvec::ArrayVec;
 use lots::{Lot, MAX_LOTS, Refusal, Table};
 
-/// Applies the rule until it is still or dead, and counts the applications. Dead puts back the
-/// windows from before. The lots are lent to be written, so they come with the capacity and not as
-/// a `Table`.
+/// The verdict of applying a rule until it is still or dead, and the number of applications
+/// (docs/RULES.md, "Piles"). The lots are as the last application left them; where it was dead,
+/// they are those of before. A table that is not lawful is refused with `Unlawful`, and stays.
 pub fn settle<R: Rule>(rule: &R, capacity: u16, lots: &mut [Lot]) -> Result<(Verdict, u32), Refusal>
     ensures answer { Settles (R.meaning rule.now) capacity lots.old lots.new result }
 {
@@ -40,7 +40,6 @@ mod tests {
     use super::*;
     use crate::{Both, Idle, Turned};
 
-    // Field by field: a constant can call no function.
     const LOT: Lot = Lot {
         est: 2,
         lct: 9,

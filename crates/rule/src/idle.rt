@@ -5,6 +5,7 @@ ghost use Rattle.rule.specs.Laws.Tables.{idle_sound};
 use crate::{Rule, Verdict};
 use lots::{Lot, Refusal, Table};
 
+/// The rule that leaves every lawful table as it is.
 #[derive(Clone, Copy, Default, Debug)]
 pub struct Idle;
 

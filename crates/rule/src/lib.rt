@@ -1,4 +1,4 @@
-//! What a rule is: it narrows the windows of a table and loses no schedule.
+//! What a rule is and owes, the piles of rules, and rules applied until nothing moves.
 #![tactic(auto)]
 
 ghost use Rattle.std.specs.Prelude.{Some};
@@ -20,7 +20,7 @@ pub use idle::Idle;
 pub use starts::raise;
 pub use turned::{Turned, turned_twice};
 
-/// What an application did to the table.
+/// What an application did to the table. It is shown as its word: `still`, `moved` or `dead`.
 #[derive(Clone, Copy, PartialEq, Eq, Debug)]
 pub enum Verdict {
     /// The table is as it was.
@@ -43,14 +43,14 @@ impl fmt::Display for Verdict {
     }
 }
 
-/// A rule, by its meaning. It owes four facts, and then every pile of it and every plan that it
+/// A rule: it narrows the windows of a table and loses no schedule (docs/RULES.md, "What a rule
+/// is"). It owes four facts of its meaning, and then every pile of it and every plan that it
 /// tightens is right.
 pub trait Rule {
     ghost meaning: { Self → Meaning };
 
-    /// Writes the table that the rule makes of these lots over them, or refuses a table that is not
-    /// lawful. The lots are lent to be written, so they and the capacity come apart and not as a
-    /// `Table`.
+    /// The verdict of one application, which writes the table that the rule makes of these lots
+    /// over them. A table that is not lawful is refused with `Unlawful`, and stays.
     fn apply(&self, capacity: u16, lots: &mut [Lot]) -> Result<Verdict, Refusal>
         ensures answer { Applied (meaning self.now) capacity lots.old lots.new result };
 

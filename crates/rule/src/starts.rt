@@ -7,8 +7,7 @@ ghost use Rattle.rule.specs.Meanings.{IsVerdictOn};
 use crate::Verdict;
 use lots::Lot;
 
-// The bound of a lot. 0 where none is given: no est is lower, so it is no bound, and needs no
-// `Option`.
+// The bound of the lot with this number, and 0 where it has none, since no est is lower.
 fn bound_of(bounds: &[u16], number: usize) -> u16
     ensures answer { result ≡ slice_index bounds.now number }
 {
@@ -30,7 +29,7 @@ fn fits(lot: &Lot, bound: u16) -> bool
 fn every_run_fits(lots: &[Lot], bounds: &[u16]) -> bool
     ensures answer { result ≡ all_fit (later_lots (λ j. slice_index bounds.now j) 0 lots.now) }
 {
-    // A loop: with a chain of `all` the time-table takes half as long again on long windows.
+    // With a chain of `all` the time-table takes half as long again on long windows.
     for (number, lot) in lots.iter().enumerate() {
         if !fits(lot, bound_of(bounds, number)) {
             return false;
@@ -39,17 +38,17 @@ fn every_run_fits(lots: &[Lot], bounds: &[u16]) -> bool
     true
 }
 
-/// Has each lot start at its bound or later. It is dead, and nothing moves, where a run does not
-/// fit then.
+/// The verdict once each lot starts at its bound or later (docs/RULES.md, "To add a rule"). Where a
+/// run does not fit then, it is dead, and no lot moves. A bound is a minute, and stands at the
+/// number of its lot; lots past the last bound have none.
 pub fn raise(lots: &mut [Lot], bounds: &[u16]) -> Verdict
-    ensures answer { IsVerdictOn (raised (λ j. slice_index bounds.now j) lots.old) lots.old lots.new
-        result }
+    ensures answer { let outcome = raised (λ j. slice_index bounds.now j) lots.old in
+        IsVerdictOn outcome lots.old lots.new result }
 {
     if !every_run_fits(lots, bounds) {
         return Verdict::Dead;
     }
     let mut verdict = Verdict::Still;
-    // By number, as above, and not zipped: lots past the last bound are looked at too.
     for (number, lot) in lots.iter_mut().enumerate() {
         let bound = bound_of(bounds, number);
         if lot.est < bound {
@@ -64,7 +63,6 @@ pub fn raise(lots: &mut [Lot], bounds: &[u16]) -> Verdict
 mod tests {
     use super::*;
 
-    // Field by field: a constant can call no function.
     const LOT: Lot = Lot {
         est: 2,
         lct: 9,

@@ -1,4 +1,4 @@
-//! A rule on the week read backwards: what it does to earliest starts, it then does to latest ends.
+//! Rules on the week read backwards.
 ghost use Rattle.std.specs.Prelude.{◌≡◌, map};
 ghost use Rattle.std.specs.List.{AllByRecursion};
 ghost use Rattle.rule.specs.Turned.{turn as turned_lot, turned as turned_round, Alike};
@@ -8,8 +8,11 @@ ghost use Rattle.rule.specs.Laws.Mirror.{turned_sound};
 use crate::{Rule, Verdict};
 use lots::{HORIZON, Lot, Refusal, Table};
 
+/// A rule on the week read backwards (docs/RULES.md, "Piles"). What the rule does to earliest
+/// starts, this does to latest ends.
 #[derive(Clone, Copy, Default, Debug)]
 pub struct Turned<X> {
+    /// The rule that is turned.
     pub rule: X,
 }
 

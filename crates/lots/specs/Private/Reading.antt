@@ -1,4 +1,4 @@
--- What reading some bytes answers.
+-- What reading answers: a value, or that there is none to read.
 use Rattle.std.specs.Prelude.{Option, MatchOption}
 
 -- the option holds what R holds of, and is empty where R holds of nothing

@@ -1,5 +1,7 @@
--- Bounds that every schedule keeps may be raised to.
-use Rattle.std.proofs.Common.{◌≡◌, ◌≢◌, ℕ, suc, ◌+◌, ◌<◌, ◌≤◌, Bool, true, false, if◌then◌else◌, leb, List, [], ◌∷◌, length, get_or, sym, refl, ap, ◌∙◌, subst, arith}
+-- The toolkit of who writes a rule that means `raise` by some bounds: the four facts that it owes.
+-- `raise_lawful` and `raise_narrows` hold of any bounds. `raise_keeps` and `raise_dies` take one fact of the
+-- subject, that every schedule keeps the bounds: each lot of each schedule starts at its bound or later.
+use Rattle.std.proofs.Common.{◌≡◌, ℕ, suc, ◌+◌, ◌<◌, ◌≤◌, Bool, true, false, if◌then◌else◌, leb, List, [], ◌∷◌, length, get_or, sym, refl, ap, ◌∙◌, subst, arith}
 use Rattle.std.specs.List.{AllByRecursion}
 use Rattle.std.proofs.lemmas.Bool.{leb-true, and_parts, le-leb, and_from, true≢false}
 use Rattle.lots.specs.Schedules.{Placed, Schedule}
@@ -10,6 +12,7 @@ use Rattle.rule.specs.Meanings.{SameWork, Narrower, LawfulSameWork, Keeps, Hopel
 use Rattle.rule.specs.Raised.{later_lot, later_lots, all_fit, raise}
 use Rattle.rule.specs.Laws.Schedules.{schedule_same}
 
+-- what later lots keep: their work, and a lawful table where every run still fits
 module _ (bound : ℕ → ℕ) where
   later_work : (k : ℕ) (T : List Lot) → SameWork T (later_lots bound k T)
   later_work k [] = tt
@@ -23,7 +26,8 @@ module _ (bound : ℕ → ℕ) where
   later_length k [] = refl
   later_length k (x ∷ xs) = ap suc (later_length (suc k) xs)
 
-  later_lawful : (C k : ℕ) (T : List Lot) → AllByRecursion (LawfulLot C) T → all_fit (later_lots bound k T) ≡ true → AllByRecursion (LawfulLot C) (later_lots bound k T)
+  later_lawful : (C k : ℕ) (T : List Lot) → AllByRecursion (LawfulLot C) T →
+      all_fit (later_lots bound k T) ≡ true → AllByRecursion (LawfulLot C) (later_lots bound k T)
   later_lawful C k [] ok fit = tt
   later_lawful C k (x ∷ xs) ok fit =
       let parts = and_parts (leb (ect (later_lot (bound k) x)) x.lct) (all_fit (later_lots bound (suc k) xs)) fit in (
@@ -38,7 +42,9 @@ module _ (bound : ℕ → ℕ) where
       )
 
   -- starts that keep the bounds are starts of the later lots, whose runs therefore fit
-  later_placed : (k : ℕ) (T : List Lot) (ss : List ℕ) → ((j : ℕ) → j < length T → bound (k + j) ≤ get_or ss j 0) → Placed T ss → Placed (later_lots bound k T) ss
+  later_placed : (k : ℕ) (T : List Lot) (ss : List ℕ) →
+      ((j : ℕ) → j < length T → bound (k + j) ≤ get_or ss j 0) → Placed T ss →
+      Placed (later_lots bound k T) ss
   later_placed k [] [] kept p = tt
   later_placed k [] (s ∷ ss) kept p = absurd p
   later_placed k (x ∷ xs) [] kept p = absurd p
@@ -51,15 +57,18 @@ module _ (bound : ℕ → ℕ) where
   each_fits [] f = refl
   each_fits (x ∷ xs) f = and_from (leb (ect x) x.lct) (all_fit xs) (le-leb (ect x) x.lct f.0) (each_fits xs f.1)
 
+  -- the four facts, at the lawful table T
   module _ (C : ℕ) (T : List Lot) (ok : Lawful C T) where
     abbrev U : List Lot
     U = later_lots bound 0 T
 
-    given : (P : List Lot → Type 0) → (all_fit U ≡ true → P U) → (b : Bool) → all_fit U ≡ b → Gives (if b then to U else dead) P
+    given : (P : List Lot → Type 0) → (all_fit U ≡ true → P U) → (b : Bool) → all_fit U ≡ b →
+        Gives (if b then to U else dead) P
     given P h true e = h e
     given P h false e = tt
 
-    died : (P : Type 0) → (all_fit U ≡ false → P) → (b : Bool) → all_fit U ≡ b → Dies (if b then to U else dead) P
+    died : (P : Type 0) → (all_fit U ≡ false → P) → (b : Bool) → all_fit U ≡ b →
+        Dies (if b then to U else dead) P
     died P h true e = tt
     died P h false e = h e
 

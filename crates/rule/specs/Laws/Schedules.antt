@@ -14,7 +14,8 @@ load_same t (x ∷ xs) (y ∷ ys) (s ∷ ss) w =
     ap₂ ◌+◌ (ap₂ (λ p c. if spans s (s + p) t then c else 0) w.0.0 w.0.1) (load_same t xs ys ss w.1)
 
 -- so a schedule of a table is one of the same work wherever its starts fit
-pub schedule_same : (C : ℕ) (T U : List Lot) (ss : List ℕ) → SameWork T U → Placed U ss → Schedule C T ss → Schedule C U ss
+pub schedule_same : (C : ℕ) (T U : List Lot) (ss : List ℕ) → SameWork T U → Placed U ss → Schedule C T ss →
+    Schedule C U ss
 schedule_same C T U ss w p s = record { placed = p; within = λ t. subst (λ n. n ≤ C) (sym (load_same t T U ss w)) (s.within t) }
 
 -- the end, too, is of the work alone

@@ -1,4 +1,4 @@
--- Tables of the same work, and tables narrower than others.
+-- What tables of the same work, and narrower ones, are to each other; so idle is sound.
 use Rattle.std.specs.Prelude.{◌≡◌, List, [], ◌∷◌, refl}
 use Rattle.std.proofs.Common.{◌∙◌, arith}
 use Rattle.std.specs.List.{AllZip}
@@ -10,7 +10,8 @@ pub each_refl : {X : Type 0} (R : X → X → Type 0) → ((x : X) → R x x) �
 each_refl R r [] = tt
 each_refl R r (x ∷ xs) = (r x, each_refl R r xs)
 
-pub each_trans : {X : Type 0} (R : X → X → Type 0) → ((x y z : X) → R x y → R y z → R x z) → (xs ys zs : List X) → AllZip R xs ys → AllZip R ys zs → AllZip R xs zs
+pub each_trans : {X : Type 0} (R : X → X → Type 0) → ((x y z : X) → R x y → R y z → R x z) →
+    (xs ys zs : List X) → AllZip R xs ys → AllZip R ys zs → AllZip R xs zs
 each_trans R t [] [] [] p q = tt
 each_trans R t [] [] (z ∷ zs) p q = q
 each_trans R t [] (y ∷ ys) zs p q = absurd p

@@ -1,5 +1,5 @@
 -- Lots that can be turned.
-use Rattle.std.specs.Prelude.{◌-◌, ◌≤◌}
+use Rattle.std.specs.Prelude.{◌≤◌}
 use Rattle.lots.specs.Limits.{horizon}
 use Rattle.lots.specs.declared.Lot.{Lot}
 
