@@ -18,8 +18,8 @@ IsSpent (Best e k) = ⊥
 IsSpent (None k) = ⊥
 IsSpent (Spent k) = Unit {0}
 
--- what the answer a means of a search by the rule m, of a plan that holds T and whose book is B; us is what the place
--- for starts holds after it
+-- what the answer a means of a search by the rule m, of a plan that holds T and whose book is B; us is what
+-- the place for starts holds after it
 pub record SearchAnswersTo (m : Meaning) (B T : Table) (budget : ℕ) (us : List ℕ) (a : Search) : Type 0 where
   -- best: us begins with a schedule of the book, which ends as is said and no later than any other;
   -- none: the book has no schedule
@@ -43,14 +43,15 @@ Searches B T =
     (m : Meaning) → Sound m → (budget : ℕ) (cs ds : List Lot) (ss us : List ℕ) (a : Search)
     → Solved m T.capacity T.lots budget cs ds ss us (Ok a) → SearchAnswersTo m B T budget us a
 
--- a plan that holds the table T answers to the book B: what is best of T is best of B, and there is none where B has
--- none
+-- a plan that holds the table T answers to the book B: what is best of T is best of B, and there is none
+-- where B has none
 pub record AnswersTo (B T : Table) : Type 0 where
   pub lawful : Lawful T.capacity T.lots
   pub same_capacity : T.capacity ≡ B.capacity
   pub same_work : SameWork B.lots T.lots
   pub same_schedules : SameSchedules B T
-  pub same_best : (E : ℕ) (ss : List ℕ) → BestSchedule B.capacity B.lots E ss ↔ BestSchedule T.capacity T.lots E ss
+  pub same_best : (E : ℕ) (ss : List ℕ)
+      → BestSchedule B.capacity B.lots E ss ↔ BestSchedule T.capacity T.lots E ss
   pub same_hopeless : Hopeless B.capacity B.lots ↔ Hopeless T.capacity T.lots
   pub searches : Searches B T
 
