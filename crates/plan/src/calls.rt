@@ -1,5 +1,5 @@
-//! The calls on a plan. A refused call alters nothing. What a call answers and leaves is one clause,
-//! and that it follows the plan's book another.
+//! The calls on a plan. A refused call alters nothing. What a call answers and leaves is one
+//! clause, and that it follows the plan's book another.
 ghost use Rattle.std.specs.Prelude.{◌≡◌, ◌-◌, ◌*◌, ◌≤◌, [], IfOk};
 ghost use Rattle.plan.specs.Tables.{empty};
 ghost use Rattle.plan.specs.Calls.{Opened, Admitted, Narrowed, Tightened};

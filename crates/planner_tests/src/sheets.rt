@@ -17,8 +17,10 @@ fn house_moves_both_ends_and_finds_the_best(rt: HostRuntime) {
     assert!(rt;
         prints(
             &house_pile(),
-            b"C 2 3\nN Cumin\nN Clove\nN Ginger & lime\nB 0 4 6 2 2\nB 1 0 6 3 1\nB 2 0 12 5 1\nT\nS 100\n",
-            b"T moved 2\nW 4 6 Cumin\nW 0 4 Clove\nW 6 12 Ginger & lime\nS best 11 5\nA 4 Cumin\nA 0 Clove\nA 6 Ginger & lime\n"
+            b"C 2 3\nN Cumin\nN Clove\nN Ginger & lime\n\
+                B 0 4 6 2 2\nB 1 0 6 3 1\nB 2 0 12 5 1\nT\nS 100\n",
+            b"T moved 2\nW 4 6 Cumin\nW 0 4 Clove\nW 6 12 Ginger & lime\n\
+                S best 11 5\nA 4 Cumin\nA 0 Clove\nA 6 Ginger & lime\n"
         )
     );
 }
