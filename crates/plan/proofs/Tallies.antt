@@ -12,7 +12,7 @@ use Rattle.plan.specs.Tables.{SameSchedules, empty, with_lot, with_lot_between}
 use Rattle.lots.specs.Tables.{Lawful, Table}
 use Rattle.lots.specs.Checks.{Passed}
 use Rattle.plan.specs.Calls.{open_checks, admit_checks, narrow_checks}
-use Rattle.plan.specs.Book.{opening, admitting, narrowing, tightening, solving, Entry, accepted, refused, enter}
+use Rattle.plan.specs.Book.{opening, admitting, narrowing, tightening, solving, Entry, accepted, refused, book_after}
 use Rattle.plan.specs.History.{Step}
 use Rattle.plan.specs.Promise.{AnswersTo}
 use Rattle.plan.proofs.Searches.{searches}
@@ -66,7 +66,7 @@ tally_kept B T U k h = record {
 pub tally_opened : (C : ℕ) (T U : Table) → Step (accepted (opening C)) T U → Tally (empty C) U
 tally_opened C T U s = subst (Tally (empty C)) (sym s.1) (tally_empty C s.0)
 
-pub tally_step : (e : Entry) (B T U : Table) → Step e T U → Tally B T → Tally (enter e B) U
+pub tally_step : (e : Entry) (B T U : Table) → Step e T U → Tally B T → Tally (book_after e B) U
 tally_step (accepted (opening C)) B T U s h = tally_opened C T U s
 tally_step (accepted (admitting x)) B T U s h = subst (Tally (with_lot x B)) (sym s.1.1.1) (tally_with_lot x B T s.1.0 h)
 tally_step (accepted (narrowing i a b)) B T U s h = subst (Tally (with_lot_between i a b B)) (sym s.1) (tally_between i a b B T s.0 h)

@@ -19,21 +19,21 @@ pub data Entry : Type 0 where
   accepted : Call → Entry
   refused : Call → Entry
 
--- the entry that an answer makes of a call
-abbrev pub noted : {X E : Type 0} → Call → Result X E → Entry
-noted c (Ok x) = accepted c
-noted c (Err e) = refused c
+-- the entry of a call that is so answered
+abbrev pub entry_of : {X E : Type 0} → Call → Result X E → Entry
+entry_of c (Ok x) = accepted c
+entry_of c (Err e) = refused c
 
--- what an entry makes of the book B
-abbrev pub enter : Entry → Table → Table
-enter (accepted (opening C)) B = empty C
-enter (accepted (admitting x)) B = with_lot x B
-enter (accepted (narrowing i a b)) B = with_lot_between i a b B
-enter (accepted (tightening m)) B = B
-enter (accepted (solving m budget cs ss)) B = B
-enter (refused c) B = B
+-- the book B with one entry more
+abbrev pub book_after : Entry → Table → Table
+book_after (accepted (opening C)) B = empty C
+book_after (accepted (admitting x)) B = with_lot x B
+book_after (accepted (narrowing i a b)) B = with_lot_between i a b B
+book_after (accepted (tightening m)) B = B
+book_after (accepted (solving m budget cs ss)) B = B
+book_after (refused c) B = B
 
 -- the book of these entries, the latest of which comes first
 abbrev pub book : List Entry → Table
 book [] = empty 1
-book (e ∷ es) = enter e (book es)
+book (e ∷ es) = book_after e (book es)

@@ -1,4 +1,5 @@
--- What each call answers and leaves behind, where T is the table before it and U the table after it.
+-- What each call answers and leaves behind, where T is the table before it and U the table after it
+-- (docs/PLAN.md, "The calls").
 use Rattle.std.specs.Prelude.{◌≡◌, ℕ, ◌+◌, ◌<◌, ◌≤◌, ◌⊎◌, List, [], ◌∷◌, length, Result}
 use Rattle.lots.specs.Checks.{Check, Checked}
 use Rattle.lots.specs.Limits.{horizon, max_capacity, max_lots}
@@ -11,6 +12,7 @@ use Rattle.rule.specs.Settled.{slack, Settled}
 use Rattle.rule.specs.declared.Verdict.{Verdict}
 use Rattle.plan.specs.Tables.{empty, with_lot, lot_between, with_lot_between}
 
+-- for the capacity C
 abbrev pub open_checks : ℕ → List Check
 open_checks C = record { refusal = Capacity; applies = (C ≡ 0) ⊎ (max_capacity < C) } ∷ []
 
@@ -29,7 +31,9 @@ admit_checks x C n =
 
 -- admit: the lot x is the last, and the answer is its number
 abbrev pub Admitted : Lot → Table → Table → Result ℕ Refusal → Type 0
-Admitted x T U r = Checked (admit_checks x T.capacity (length T.lots)) (U ≡ T) (λ n. (n ≡ length T.lots) × (U ≡ with_lot x T)) r
+Admitted x T U r =
+    Checked (admit_checks x T.capacity (length T.lots)) (U ≡ T)
+    (λ n. (n ≡ length T.lots) × (U ≡ with_lot x T)) r
 
 -- for the lot x, in at a or later and out by b
 abbrev pub window_checks : Lot → ℕ → ℕ → List Check
@@ -38,14 +42,16 @@ window_checks x a b =
     ∷ record { refusal = NoRoom; applies = (lot_between a b x).lct < ect (lot_between a b x) }
     ∷ []
 
+-- for the lot with the number i of the lots xs, in at a or later and out by b
 abbrev pub narrow_checks : ℕ → ℕ → ℕ → List Lot → List Check
-narrow_checks i a b xs = record { refusal = NoSuchLot; applies = length xs ≤ i } ∷ window_checks (lot_at xs i) a b
+narrow_checks i a b xs =
+    record { refusal = NoSuchLot; applies = length xs ≤ i } ∷ window_checks (lot_at xs i) a b
 
 -- narrow: the lot with the number i goes in at a or later and is out by b
 abbrev pub Narrowed : ℕ → ℕ → ℕ → Table → Table → Result (Unit {0}) Refusal → Type 0
 Narrowed i a b T U r = Checked (narrow_checks i a b T.lots) (U ≡ T) (λ _. U ≡ with_lot_between i a b T) r
 
--- tighten by the rule m, which never refuses: its verdict, and the number k of applications
+-- tighten by the rule m, which never refuses: its verdict v, and the number k of applications
 pub record Tightened (m : Meaning) (T U : Table) (v : Verdict) (k : ℕ) : Type 0 where
   pub same_capacity : U.capacity ≡ T.capacity
   pub settled : Settled m T.capacity T.lots U.lots v k

@@ -18,7 +18,8 @@ Step (accepted (admitting x)) T U = (n : ℕ) × Admitted x T U (Ok n)
 Step (accepted (narrowing i a b)) T U = Narrowed i a b T U (Ok tt)
 Step (accepted (tightening m)) T U = Sound m × (v : Verdict) × (k : ℕ) × Tightened m T U v k
 Step (accepted (solving m budget cs ss)) T U =
-    Sound m × (U ≡ T) × (ds : List Lot) × (us : List ℕ) × (a : Search) × Solved m T.capacity T.lots budget cs ds ss us (Ok a)
+    Sound m × (U ≡ T)
+    × (ds : List Lot) × (us : List ℕ) × (a : Search) × Solved m T.capacity T.lots budget cs ds ss us (Ok a)
 Step (refused (opening C)) T U = (e : Refusal) × Opened C T U (Err e)
 Step (refused (admitting x)) T U = (e : Refusal) × Admitted x T U (Err e)
 Step (refused (narrowing i a b)) T U = (e : Refusal) × Narrowed i a b T U (Err e)
@@ -29,7 +30,8 @@ Step (refused (solving m budget cs ss)) T U =
 -- a plan that holds the table has known just these calls since it was new, or since an accepted open
 pub data History : List Entry → Table → Type 0 where
   new : History [] (empty 1)
-  opened : (T : Table) {U : Table} (C : ℕ) → Step (accepted (opening C)) T U → History (accepted (opening C) ∷ []) U
+  opened : (T : Table) {U : Table} (C : ℕ) → Step (accepted (opening C)) T U
+      → History (accepted (opening C) ∷ []) U
   later : {es : List Entry} {T U : Table} (e : Entry) → History es T → Step e T U → History (e ∷ es) U
 
 -- an accepted open begins a history, whatever the plan held
@@ -37,6 +39,8 @@ abbrev pub BeginsHistory : ℕ → Result (Unit {0}) Refusal → Table → Type 
 BeginsHistory C (Ok x) U = History (accepted (opening C) ∷ []) U
 BeginsHistory C (Err e) U = Unit {0}
 
--- what a call does to every history of the plan: it is one entry longer, and its book has the plan's schedules
+-- what a call does to every history of the plan: it is one entry longer, and its book has the
+-- schedules of the plan
 abbrev pub Follows : Entry → Table → Table → Type 0
-Follows e T U = (es : List Entry) → History es T → History (e ∷ es) U × SameSchedules (book (e ∷ es)) U
+Follows e T U =
+    (es : List Entry) → History es T → History (e ∷ es) U × SameSchedules (book (e ∷ es)) U

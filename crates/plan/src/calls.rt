@@ -1,13 +1,13 @@
-//! The calls on a plan. A refused call alters nothing. Each says apart what it answers and that it
-//! follows the book, since the two are read by different readers.
-ghost use Rattle.std.specs.Prelude.{◌≡◌, ◌-◌, ◌*◌, ◌≤◌, List, [], IfOk};
+//! The calls on a plan. A refused call alters nothing. What a call answers and leaves is one
+//! clause, and that it follows the plan's book another.
+ghost use Rattle.std.specs.Prelude.{◌≡◌, ◌-◌, ◌*◌, ◌≤◌, [], IfOk};
 ghost use Rattle.plan.specs.Tables.{empty};
 ghost use Rattle.plan.specs.Calls.{Opened, Admitted, Narrowed, Tightened};
 ghost use Rattle.tree.specs.Answer.{nodes as nodes_of, Solved};
 ghost use Rattle.tree.specs.Tree.{ways};
-ghost use Rattle.plan.specs.Book.{opening, admitting, narrowing, tightening, solving, Entry, accepted, noted, book};
+ghost use Rattle.plan.specs.Book.{opening, admitting, narrowing, tightening, solving, accepted, entry_of};
 ghost use Rattle.plan.specs.History.{History, BeginsHistory, Follows};
-ghost use Rattle.plan.specs.Promise.{SearchAnswersTo};
+ghost use Rattle.plan.specs.Promise.{SearchAnswersToBooks};
 
 use crate::Plan;
 use crate::checks::{admission, narrowed};
@@ -17,7 +17,7 @@ use rule::{Rule, Verdict, settle};
 use tree::Search;
 
 impl Plan {
-    /// No lots, and a capacity of 1.
+    /// A plan with no lots and a capacity of 1 tray.
     pub fn new() -> Plan
         ensures exact { result ≡ empty 1 }
         ensures begins { History [] result }
@@ -28,10 +28,12 @@ impl Plan {
         }
     }
 
-    /// Empties the plan and sets its capacity.
+    /// Empties the plan and sets its capacity, in trays.
+    ///
+    /// Refused with 1 where the capacity is 0 or above 200.
     pub fn open(&mut self, capacity: u16) -> Result<(), Refusal>
         ensures exact { Opened capacity self.old self.new result }
-        ensures follows { Follows (noted (opening capacity) result) self.old self.new }
+        ensures follows { Follows (entry_of (opening capacity) result) self.old self.new }
         ensures begins { BeginsHistory capacity result self.new }
     {
         if capacity == 0 || capacity > MAX_CAPACITY {
@@ -42,10 +44,14 @@ impl Plan {
         Ok(())
     }
 
-    /// Adds the lot and answers its number.
+    /// Adds the lot at the next number, from 0, and answers the number.
+    ///
+    /// Refused by the first cause that applies: with 2 where 64 lots are in, 3 where the lot takes
+    /// no tray or more than the capacity, 4 where it runs for 0 minutes, 5 where est + p is above
+    /// lct or lct is above 10,080.
     pub fn admit(&mut self, lot: Lot) -> Result<usize, Refusal>
         ensures exact { Admitted lot self.old self.new result }
-        ensures follows { Follows (noted (admitting lot) result) self.old self.new }
+        ensures follows { Follows (entry_of (admitting lot) result) self.old self.new }
     {
         let number = self.lots.len();
         admission(lot, self.capacity, number)?;
@@ -53,11 +59,14 @@ impl Plan {
         Ok(number)
     }
 
-    /// Has the lot of this number go in at `from` or later and be out by `to`, where these are
-    /// tighter.
+    /// Has the lot of this number go in at minute `from` or later and be out by minute `to`, where
+    /// these are tighter than its window.
+    ///
+    /// Refused by the first cause that applies: with 6 where no lot has the number, 7 where `from`
+    /// is above `to` or `to` is above 10,080, 8 where the run does not fit what would be left.
     pub fn narrow(&mut self, lot: usize, from: u16, to: u16) -> Result<(), Refusal>
         ensures exact { Narrowed lot from to self.old self.new result }
-        ensures follows { Follows (noted (narrowing lot from to) result) self.old self.new }
+        ensures follows { Follows (entry_of (narrowing lot from to) result) self.old self.new }
     {
         let place = self.lots.get_mut(lot).ok_or(Refusal::NoSuchLot)?;
         let tighter = narrowed(*place, from, to)?;
@@ -65,8 +74,9 @@ impl Plan {
         Ok(())
     }
 
-    /// Applies the rule until it is still or dead, and counts the applications. Dead puts back the
-    /// windows from before.
+    /// Applies the rule until it is still or dead, and answers the verdict with the number of
+    /// applications, the last counted in. Dead puts back the windows from before. It is never
+    /// refused.
     pub fn tighten<R: Rule>(&mut self, rule: &R) -> (Verdict, u32)
         ensures exact { Tightened (R.meaning rule.now) self.old self.new result.0 result.1 }
         ensures follows { Follows (accepted (tightening (R.meaning rule.now))) self.old self.new }
@@ -75,8 +85,14 @@ impl Plan {
         settle(rule, self.capacity, self.lots.as_mut_slice()).unwrap()
     }
 
-    /// Finds a best schedule in at most so many nodes, with a lent trail for those that are
-    /// unvisited, and writes its starts.
+    /// Finds a best schedule by a search of at most `budget` nodes (docs/SEARCH.md), and leaves the
+    /// plan as it is. Best writes the start of each lot, by number, to the first places of
+    /// `starts`.
+    ///
+    /// The trail is lent for the nodes that are unvisited, and comes back blank, unless refused.
+    ///
+    /// Refused by the first cause that applies: with 10 where the budget is 0, 11 where the trail
+    /// has fewer than n × n + n cells for n lots, 12 where there are fewer than n places for starts.
     pub fn solve<R: Rule>(
         &self,
         rule: &R,
@@ -84,15 +100,13 @@ impl Plan {
         trail: &mut [Lot],
         starts: &mut [u16],
     ) -> Result<Search, Refusal>
-        ensures exact { Solved (R.meaning rule.now) self.now.capacity self.now.lots budget trail.old
-            trail.new starts.old starts.new result }
-        ensures follows { Follows
-            (noted (solving (R.meaning rule.now) budget trail.old starts.old) result) self.now
-            self.now }
+        ensures exact { Solved (R.meaning rule.now) self.now.capacity self.now.lots budget
+            trail.old trail.new starts.old starts.new result }
+        ensures follows { let call = solving (R.meaning rule.now) budget trail.old starts.old in
+            Follows (entry_of call result) self.now self.now }
         ensures short { IfOk result (λ a. nodes_of a ≤ 2 * ways self.now.lots - 1) }
         ensures promised { IfOk result
-            (λ a. (es : List Entry) → History es self.now
-            → SearchAnswersTo (R.meaning rule.now) (book es) self.now budget starts.new a) }
+            (SearchAnswersToBooks (R.meaning rule.now) self.now budget starts.new) }
     {
         // The table of a plan is lawful.
         let table = Table::new(self.capacity, self.lots.as_slice()).unwrap();
@@ -112,7 +126,6 @@ impl Default for Plan {
 mod tests {
     use super::*;
 
-    // Field by field: a constant can call no function.
     const WEEK: Lot = Lot {
         est: 0,
         lct: 10_080,

@@ -12,16 +12,17 @@ mod views;
 
 pub use promise::plans_answer_to_their_books;
 
+/// The lots of one machine by number, each with the window that is left to it, under the machine's
+/// capacity in trays (docs/PLAN.md). After every call it is a lawful table.
 #[derive(Drop)]
 pub struct Plan {
     capacity: u16,
     lots: ArrayVec<Lot, MAX_LOTS>,
 }
 
-// Clauses see its table.
+// Clauses see the table that it holds.
 impl Model for Plan {
-    ghost use Rattle.lots.specs.Tables.{Lawful};
-    ghost use Rattle.lots.specs.Tables.{Table};
+    ghost use Rattle.lots.specs.Tables.{Lawful, Table};
 
     ghost Value = { Table };
 

@@ -14,8 +14,8 @@ use Rattle.tree.specs.Answer.{Told}
 use Rattle.tree.specs.Tree.{ways, BestKnown, unknown, known, last_known, Visit}
 use Rattle.tree.specs.declared.Search.{Search}
 use Rattle.tree.specs.declared.Search.TheVariants.{Best, None, Spent}
-use Rattle.worked.specs.Cases.{Case, overflow_is, applied, tightened, ways_are, solved, Holds, worked, AllHold}
-use Rattle.worked.proofs.Found.{found, then, by_yes, at_most, less, equal, of_each}
+use Rattle.worked.specs.Cases.{Case, overflow_is, applied, tightened, ways_are, solved, Holds, worked_cases, AllHold}
+use Rattle.worked.proofs.Found.{found, and_then, by_yes, at_most, less, equal, of_each}
 use Rattle.worked.proofs.Outcomes.{lawful, application, settles}
 use Rattle.worked.proofs.Visits.{visit}
 
@@ -24,7 +24,7 @@ same_numbers xs ys = by_yes (pointwise nat_eq xs ys) (slice_eq-Decides Decides-e
 
 abbrev is_known : (b : BestKnown) (us : List ℕ) (e : ℕ) → Option (b ≡ known us e)
 is_known unknown us e = Nothing
-is_known (known vs d) us e = then (same_numbers vs us) (λ s. then (equal d e) (λ t. Some (ap₂ known s t)))
+is_known (known vs d) us e = and_then (same_numbers vs us) (λ s. and_then (equal d e) (λ t. Some (ap₂ known s t)))
 
 abbrev is_unknown : (b : BestKnown) → Option (b ≡ unknown)
 is_unknown unknown = Some refl
@@ -40,13 +40,13 @@ best_written B bs us e k all few best ss =
 
 abbrev writes : (n B : ℕ) (bs : List BestKnown) (us : List ℕ) (a : Search) → Option (Writes n B bs us a)
 writes n B bs us (Best e k) =
-    then (equal k (length bs)) (λ all. then (at_most k B) (λ few. then (is_known (last_known unknown bs) us e) (λ best. then (equal (length us) n) (λ count.
+    and_then (equal k (length bs)) (λ all. and_then (at_most k B) (λ few. and_then (is_known (last_known unknown bs) us e) (λ best. and_then (equal (length us) n) (λ count.
     Some (subst (λ i. Writes i B bs us (Best e k)) count (best_written B bs us e k all few best))))))
 writes n B bs [] (None k) =
-    then (equal k (length bs)) (λ all. then (at_most k B) (λ few. then (is_unknown (last_known unknown bs)) (λ hopeless.
+    and_then (equal k (length bs)) (λ all. and_then (at_most k B) (λ few. and_then (is_unknown (last_known unknown bs)) (λ hopeless.
     Some (λ ss. (all, few, hopeless, refl)))))
 writes n B bs (u ∷ us) (None k) = Nothing
-writes n B bs [] (Spent k) = then (equal k B) (λ all. then (less B (length bs)) (λ more. Some (λ ss. (all, more, refl))))
+writes n B bs [] (Spent k) = and_then (equal k B) (λ all. and_then (less B (length bs)) (λ more. Some (λ ss. (all, more, refl))))
 writes n B bs (u ∷ us) (Spent k) = Nothing
 
 solved_by : (m : Meaning) (C : ℕ) (T : List Lot) (B : ℕ) (a : Search) (us : List ℕ) → 0 < B → (bs : List BestKnown) → Visit m C unknown T bs → Writes (length T) B bs us a → Holds (solved m C T B a us)
@@ -55,15 +55,15 @@ solved_by m C T B a us some bs v w cs ss trail places =
 
 abbrev tried : (x : Case) → Option (Holds x)
 tried (overflow_is C T left count) =
-    then (lawful C T) (λ ok. then (equal left (overflow C T)) (λ l. then (equal count (points T)) (λ c. Some (ok, l, c))))
+    and_then (lawful C T) (λ ok. and_then (equal left (overflow C T)) (λ l. and_then (equal count (points T)) (λ c. Some (ok, l, c))))
 tried (applied m C T v U) = application m C T U v
 tried (tightened m C T v k U) =
-    then (settles m C T U v k) (λ s. then (at_most k (1 + slack T)) (λ few. Some (record { same_capacity = refl; settled = s; few = few })))
+    and_then (settles m C T U v k) (λ s. and_then (at_most k (1 + slack T)) (λ few. Some (record { same_capacity = refl; settled = s; few = few })))
 tried (ways_are T n) = equal (ways T) n
 tried (solved m C T B a us) =
-    then (less 0 B) (λ some. then (visit m C (2 * ways T) unknown T) (λ v. then (writes (length T) B v.0 us a) (λ w.
+    and_then (less 0 B) (λ some. and_then (visit m C (2 * ways T) unknown T) (λ v. and_then (writes (length T) B v.0 us a) (λ w.
     Some (solved_by m C T B a us some v.0 v.1 w))))
 
 pub all_hold : AllHold
 unfolding some_below after_last
-all_hold = found (of_each tried worked) refl
+all_hold = found (of_each tried worked_cases) refl

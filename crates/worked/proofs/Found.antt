@@ -11,9 +11,9 @@ pub found : {P : Type 0} → (o : Option P) → is_some o ≡ true → P
 found None e = absurd (false≢true e)
 found (Some p) e = p
 
-abbrev pub then : {P Q : Type 0} → Option P → (P → Option Q) → Option Q
-then None f = None
-then (Some p) f = f p
+abbrev pub and_then : {P Q : Type 0} → Option P → (P → Option Q) → Option Q
+and_then None f = None
+and_then (Some p) f = f p
 
 -- what the yes of a test shows
 abbrev pub by_yes : {P : Type 0} → (b : Bool) → (b ≡ true → P) → Option P
@@ -37,7 +37,7 @@ equal a b = by_yes (a == b) (eqb-true a b)
 -- of each element of a list
 abbrev pub of_each : {X : Type 0} {P : X → Type 0} → ((x : X) → Option (P x)) → (xs : List X) → Option (AllByRecursion P xs)
 of_each f [] = Some tt
-of_each f (x ∷ xs) = then (f x) (λ p. then (of_each f xs) (λ ps. Some (p, ps)))
+of_each f (x ∷ xs) = and_then (f x) (λ p. and_then (of_each f xs) (λ ps. Some (p, ps)))
 
 pub one_more : (P : ℕ → Type 0) (n : ℕ) → ((k : ℕ) → k < n → P k) → P n → (k : ℕ) → k < suc n → P k
 one_more P n before here k h = elim (cases_lt k n) [ inl l ↦ before k l | inr l ↦ let e : n ≡ k = omega arith in subst P e here ]
@@ -45,7 +45,7 @@ one_more P n before here k h = elim (cases_lt k n) [ inl l ↦ before k l | inr 
 -- of each number below n
 abbrev pub of_each_below : {P : ℕ → Type 0} → ((k : ℕ) → Option (P k)) → (n : ℕ) → Option ((k : ℕ) → k < n → P k)
 of_each_below f zero = Some (λ k h. absurd (omega arith))
-of_each_below {P} f (suc n) = then (of_each_below f n) (λ before. then (f n) (λ here. Some (one_more P n before here)))
+of_each_below {P} f (suc n) = and_then (of_each_below f n) (λ before. and_then (f n) (λ here. Some (one_more P n before here)))
 
 -- of the last number below n for which it is found
 abbrev pub of_some_below : {P : ℕ → Type 0} → ((k : ℕ) → Option (P k)) → (n : ℕ) → Option ((k : ℕ) × P k)

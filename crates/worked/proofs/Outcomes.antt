@@ -12,7 +12,7 @@ use Rattle.rule.specs.Laws.Tables.{lot_path}
 use Rattle.rule.specs.Settled.{Moves, none, more, Settled}
 use Rattle.rule.specs.declared.Verdict.{Verdict}
 use Rattle.rule.specs.declared.Verdict.TheVariants.{Still, Moved, Dead}
-use Rattle.worked.proofs.Found.{then, either_by, at_most, less, equal, of_each}
+use Rattle.worked.proofs.Found.{and_then, either_by, at_most, less, equal, of_each}
 
 abbrev pub same_lot : Lot → Lot → Bool
 same_lot x y = x.est == y.est && (x.lct == y.lct && (x.p == y.p && x.c == y.c))
@@ -36,41 +36,41 @@ other T U = elim (same? T U) [ inl e ↦ None | inr ne ↦ Some ne ]
 
 abbrev pub lawful_lot : (C : ℕ) (x : Lot) → Option (LawfulLot C x)
 lawful_lot C x =
-    then (at_most 1 x.p) (λ runs. then (at_most 1 x.c) (λ takes. then (at_most x.c C) (λ has.
-    then (at_most (ect x) x.lct) (λ fits. then (at_most x.lct horizon) (λ ends.
+    and_then (at_most 1 x.p) (λ runs. and_then (at_most 1 x.c) (λ takes. and_then (at_most x.c C) (λ has.
+    and_then (at_most (ect x) x.lct) (λ fits. and_then (at_most x.lct horizon) (λ ends.
     Some (record { runs = runs; takes_trays = takes; has_trays = has; has_time = fits; in_week = ends }))))))
 
 abbrev pub lawful : (C : ℕ) (T : List Lot) → Option (Lawful C T)
 lawful C T =
-    then (at_most 1 C) (λ some. then (at_most C max_capacity) (λ few. then (at_most (length T) max_lots) (λ lots.
-    then (of_each (lawful_lot C) T) (λ each.
+    and_then (at_most 1 C) (λ some. and_then (at_most C max_capacity) (λ few. and_then (at_most (length T) max_lots) (λ lots.
+    and_then (of_each (lawful_lot C) T) (λ each.
     Some (record { some_trays = some; few_trays = few; few_lots = lots; each = each })))))
 
 module _ (m : Meaning) (C : ℕ) where
   abbrev pub answers : (T U : List Lot) (v : Verdict) → Lawful C T → (o : Outcome) → m C T ≡ o → Option (Applied m C T U (Ok v))
-  answers T U Still ok (to V) e = then (same V T) (λ still. then (same U T) (λ left. Some (ok, (e ∙ ap to still, left))))
-  answers T U Moved ok (to V) e = then (same V U) (λ comes. then (other U T) (λ moved. Some (ok, (e ∙ ap to comes, moved))))
-  answers T U Dead ok dead e = then (same U T) (λ left. Some (ok, (e, left)))
+  answers T U Still ok (to V) e = and_then (same V T) (λ still. and_then (same U T) (λ left. Some (ok, (e ∙ ap to still, left))))
+  answers T U Moved ok (to V) e = and_then (same V U) (λ comes. and_then (other U T) (λ moved. Some (ok, (e ∙ ap to comes, moved))))
+  answers T U Dead ok dead e = and_then (same U T) (λ left. Some (ok, (e, left)))
   answers T U Still ok dead e = None
   answers T U Moved ok dead e = None
   answers T U Dead ok (to V) e = None
 
   -- one application
   abbrev pub application : (T U : List Lot) (v : Verdict) → Option (Applied m C T U (Ok v))
-  application T U v = then (lawful C T) (λ ok. answers T U v ok (m C T) refl)
+  application T U v = and_then (lawful C T) (λ ok. answers T U v ok (m C T) refl)
 
   abbrev pub moves_on : (T U : List Lot) (n : ℕ) → Moves m C T n U → (o : Outcome) → m C U ≡ o → Option ((V : List Lot) × Moves m C T (suc n) V)
   moves_on T U n h dead e = None
-  moves_on T U n h (to V) e = then (other V U) (λ moved. Some (V, more h e moved))
+  moves_on T U n h (to V) e = and_then (other V U) (λ moved. Some (V, more h e moved))
 
   -- the table to which n moves lead
   abbrev pub moves : (T : List Lot) (n : ℕ) → Option ((U : List Lot) × Moves m C T n U)
   moves T zero = Some (T, none)
-  moves T (suc n) = then (moves T n) (λ r. moves_on T r.0 n r.1 (m C r.0) refl)
+  moves T (suc n) = and_then (moves T n) (λ r. moves_on T r.0 n r.1 (m C r.0) refl)
 
   abbrev pub stays : (T : List Lot) (o : Outcome) → m C T ≡ o → Option (m C T ≡ to T)
   stays T dead e = None
-  stays T (to V) e = then (same V T) (λ still. Some (e ∙ ap to still))
+  stays T (to V) e = and_then (same V T) (λ still. Some (e ∙ ap to still))
 
   abbrev pub dies : (T : List Lot) (o : Outcome) → m C T ≡ o → Option (m C T ≡ dead)
   dies T dead e = Some e
@@ -78,11 +78,11 @@ module _ (m : Meaning) (C : ℕ) where
 
   -- applications until the rule is still or dead
   abbrev pub settles : (T U : List Lot) (v : Verdict) (k : ℕ) → Option (Settled m C T U v k)
-  settles T U Still k = then (equal k 1) (λ once. then (stays T (m C T) refl) (λ still. then (same U T) (λ left. Some (once, still, left))))
+  settles T U Still k = and_then (equal k 1) (λ once. and_then (stays T (m C T) refl) (λ still. and_then (same U T) (λ left. Some (once, still, left))))
   settles T U Moved zero = None
   settles T U Moved (suc n) =
-      then (less 0 n) (λ some. then (moves T n) (λ r. then (same r.0 U) (λ comes. then (stays U (m C U) refl) (λ still.
+      and_then (less 0 n) (λ some. and_then (moves T n) (λ r. and_then (same r.0 U) (λ comes. and_then (stays U (m C U) refl) (λ still.
       Some (n, some, refl, subst (Moves m C T n) comes r.1, still)))))
   settles T U Dead zero = None
   settles T U Dead (suc n) =
-      then (moves T n) (λ r. then (dies r.0 (m C r.0) refl) (λ end. then (same U T) (λ left. Some (n, r.0, refl, r.1, end, left))))
+      and_then (moves T n) (λ r. and_then (dies r.0 (m C r.0) refl) (λ end. and_then (same U T) (λ left. Some (n, r.0, refl, r.1, end, left))))

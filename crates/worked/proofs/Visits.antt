@@ -11,7 +11,7 @@ use Rattle.rule.specs.Meanings.{Meaning, Outcome, dead, to}
 use Rattle.rule.specs.Settled.{Moves, none, more, slack}
 use Rattle.tree.specs.Tree.{BestKnown, known, under, ComesTo, Leaves, late, tight, Fixed, earliest_starts, HasChoice, Branch, left, right, barren, above_capacity, found, last_known, Visit, leaf, fork}
 use Rattle.tree.proofs.Ways.{to_the_end}
-use Rattle.worked.proofs.Found.{then, either_by, at_most, less, equal, of_each, of_each_below, of_some_below}
+use Rattle.worked.proofs.Found.{and_then, either_by, at_most, less, equal, of_each, of_each_below, of_some_below}
 use Rattle.worked.proofs.Outcomes.{same?}
 
 abbrev pub fit : List Lot → Bool
@@ -23,7 +23,7 @@ fit_decides T = Decides-by_and (λ x. nat_le (ect x) x.lct) (λ x. ect x ≤ x.l
 
 -- Q, where P holds
 abbrev pub where_so : {P Q : Type 0} → P ⊎ (P → ⊥) → Option Q → Option (P → Q)
-where_so (inl p) q = then q (λ r. Some (λ _. r))
+where_so (inl p) q = and_then q (λ r. Some (λ _. r))
 where_so (inr n) q = Some (λ p. absurd (n p))
 
 -- the lot k, where it has a choice
@@ -32,9 +32,9 @@ where_choice U k q = where_so (either_by (nat_lt (lot_at U k).est (lst (lot_at U
 
 abbrev pub branch : (U : List Lot) (j : ℕ) → Option (Branch U j)
 branch U j =
-    then (less j (length U)) (λ inside. then (less (lot_at U j).est (lst (lot_at U j))) (λ choice.
-    then (of_each_below (λ k. where_choice U k (at_most (lot_at U j).est (lot_at U k).est)) (length U)) (λ earliest.
-    then (of_each_below (λ k. where_choice U k (less (lot_at U j).est (lot_at U k).est)) j) (λ first.
+    and_then (less j (length U)) (λ inside. and_then (less (lot_at U j).est (lst (lot_at U j))) (λ choice.
+    and_then (of_each_below (λ k. where_choice U k (at_most (lot_at U j).est (lot_at U k).est)) (length U)) (λ earliest.
+    and_then (of_each_below (λ k. where_choice U k (less (lot_at U j).est (lot_at U k).est)) j) (λ first.
     Some (record { inside = inside; choice = choice; earliest = earliest; first = first })))))
 
 module _ (m : Meaning) (C : ℕ) where
@@ -54,19 +54,19 @@ module _ (m : Meaning) (C : ℕ) where
   abbrev pub closing : (b : BestKnown) (T U : List Lot) → Leaves m C b T (to U) → Fixed U → Option (VisitOf b T)
   closing b T U l f = elim (of_each_below (λ t. at_most (load t U (earliest_starts U)) C) (end U (earliest_starts U))) [
     | Some within ↦ Some (known (earliest_starts U) (end U (earliest_starts U)) ∷ [], leaf (found l f (to_the_end C U (earliest_starts U) within)))
-    | None ↦ then (of_some_below (λ t. less C (load t U (earliest_starts U))) (end U (earliest_starts U))) (λ r. Some (b ∷ [], leaf (above_capacity r.0 l f r.1)))
+    | None ↦ and_then (of_some_below (λ t. less C (load t U (earliest_starts U))) (end U (earliest_starts U))) (λ r. Some (b ∷ [], leaf (above_capacity r.0 l f r.1)))
   ]
 
   -- the nodes below are visited by w
   module _ (w : (b : BestKnown) (T : List Lot) → Option (VisitOf b T)) (b : BestKnown) (T : List Lot) where
     abbrev pub forking : (U : List Lot) → Leaves m C b T (to U) → (j : ℕ) → Branch U j → Option (VisitOf b T)
-    forking U l j br = then (w b (left j U)) (λ ls. then (w (last_known b ls.0) (right j U)) (λ rs. Some (b ∷ (ls.0 ++ rs.0), fork j l br ls.1 rs.1)))
+    forking U l j br = and_then (w b (left j U)) (λ ls. and_then (w (last_known b ls.0) (right j U)) (λ rs. Some (b ∷ (ls.0 ++ rs.0), fork j l br ls.1 rs.1)))
 
     abbrev pub node : (o : Outcome) → Leaves m C b T o → Option (VisitOf b T)
     node dead l = Some (b ∷ [], leaf (barren l))
     node (to U) l = elim (of_each (λ x. equal x.est (lst x)) U) [
       | Some f ↦ closing b T U l f
-      | None ↦ then (of_some_below (branch U) (length U)) (λ r. forking U l r.0 r.1)
+      | None ↦ and_then (of_some_below (branch U) (length U)) (λ r. forking U l r.0 r.1)
     ]
 
   -- the visit of T, where it is at most k nodes deep
@@ -74,7 +74,7 @@ module _ (m : Meaning) (C : ℕ) where
   visit zero b T = None
   visit (suc k) b T = elim (either_by (fit (under b T)) (fit_decides (under b T))) [
     | inl f ↦
-        then (comes_to (1 + slack (under b T)) (under b T) (under b T) 0 none (m C (under b T)) refl)
+        and_then (comes_to (1 + slack (under b T)) (under b T) (under b T) 0 none (m C (under b T)) refl)
         (λ r. node (visit k) b T r.0 (tight f r.1))
     | inr n ↦ Some (b ∷ [], leaf (barren (late n)))
   ]

@@ -39,17 +39,19 @@ pub data Case : Type 0 where
 abbrev pub Holds : Case → Type 0
 Holds (overflow_is C T left count) = OverflowAnswered C T (Ok (left, count))
 Holds (applied m C T v U) = Applied m C T U (Ok v)
-Holds (tightened m C T v k U) = Tightened m (record { capacity = C; lots = T }) (record { capacity = C; lots = U }) v k
+Holds (tightened m C T v k U) =
+    Tightened m (record { capacity = C; lots = T }) (record { capacity = C; lots = U }) v k
 Holds (ways_are T n) = ways T ≡ n
 -- whatever the trail and the places for starts hold, where there is room enough
 Holds (solved m C T B a us) =
     (cs : List Lot) (ss : List ℕ) → trail_cells (length T) ≤ length cs → length T ≤ length ss
     → Solved m C T B cs (replicate (length cs) blank) ss (us ++ drop (length us) ss) (Ok a)
 
--- the worked tables
-abbrev pub worked : List Case
-worked =
-    -- the first lot fills both trays from 4 on, and the second runs for a minute more than there is before that
+-- the worked tables (docs/WORKED.md)
+abbrev pub worked_cases : List Case
+worked_cases =
+    -- the first lot fills both trays from 4 on, and the second runs for a minute more than there is
+    -- before that
     overflow_is 2 (lot 4 6 2 2 ∷ lot 0 6 5 1 ∷ []) 1 4
     ∷ applied overload 2 (lot 4 6 2 2 ∷ lot 0 6 5 1 ∷ []) Dead (lot 4 6 2 2 ∷ lot 0 6 5 1 ∷ [])
     -- a minute less
@@ -58,16 +60,21 @@ worked =
     -- one lot more opens a tray more, and nothing is left over
     ∷ overflow_is 2 (lot 0 1 1 2 ∷ lot 0 3 3 1 ∷ []) 1 3
     ∷ overflow_is 2 (lot 0 1 1 2 ∷ lot 0 3 3 1 ∷ lot 1 3 1 1 ∷ []) 0 4
-    ∷ applied overload 2 (lot 0 1 1 2 ∷ lot 0 3 3 1 ∷ lot 1 3 1 1 ∷ []) Still (lot 0 1 1 2 ∷ lot 0 3 3 1 ∷ lot 1 3 1 1 ∷ [])
+    ∷ applied overload 2 (lot 0 1 1 2 ∷ lot 0 3 3 1 ∷ lot 1 3 1 1 ∷ []) Still
+    (lot 0 1 1 2 ∷ lot 0 3 3 1 ∷ lot 1 3 1 1 ∷ [])
     -- the second lot cannot start first, unless it runs for a minute less
     ∷ applied not_first 1 (lot 0 5 3 1 ∷ lot 0 9 3 1 ∷ []) Moved (lot 0 5 3 1 ∷ lot 3 9 3 1 ∷ [])
     ∷ applied not_first 1 (lot 0 5 3 1 ∷ lot 0 9 2 1 ∷ []) Still (lot 0 5 3 1 ∷ lot 0 9 2 1 ∷ [])
     -- and so of the latest end, in the week read backwards
-    ∷ applied (turned not_first) 1 (lot 10075 10080 3 1 ∷ lot 10071 10080 3 1 ∷ []) Moved (lot 10075 10080 3 1 ∷ lot 10071 10077 3 1 ∷ [])
+    ∷ applied (turned not_first) 1 (lot 10075 10080 3 1 ∷ lot 10071 10080 3 1 ∷ []) Moved
+    (lot 10075 10080 3 1 ∷ lot 10071 10077 3 1 ∷ [])
     -- one move makes another
-    ∷ applied not_first 2 (lot 4 6 2 2 ∷ lot 0 6 3 1 ∷ lot 0 12 5 1 ∷ []) Moved (lot 4 6 2 2 ∷ lot 0 6 3 1 ∷ lot 3 12 5 1 ∷ [])
-    ∷ applied not_first 2 (lot 4 6 2 2 ∷ lot 0 6 3 1 ∷ lot 3 12 5 1 ∷ []) Moved (lot 4 6 2 2 ∷ lot 0 6 3 1 ∷ lot 6 12 5 1 ∷ [])
-    ∷ tightened not_first 2 (lot 4 6 2 2 ∷ lot 0 6 3 1 ∷ lot 0 12 5 1 ∷ []) Moved 3 (lot 4 6 2 2 ∷ lot 0 6 3 1 ∷ lot 6 12 5 1 ∷ [])
+    ∷ applied not_first 2 (lot 4 6 2 2 ∷ lot 0 6 3 1 ∷ lot 0 12 5 1 ∷ []) Moved
+    (lot 4 6 2 2 ∷ lot 0 6 3 1 ∷ lot 3 12 5 1 ∷ [])
+    ∷ applied not_first 2 (lot 4 6 2 2 ∷ lot 0 6 3 1 ∷ lot 3 12 5 1 ∷ []) Moved
+    (lot 4 6 2 2 ∷ lot 0 6 3 1 ∷ lot 6 12 5 1 ∷ [])
+    ∷ tightened not_first 2 (lot 4 6 2 2 ∷ lot 0 6 3 1 ∷ lot 0 12 5 1 ∷ []) Moved 3
+    (lot 4 6 2 2 ∷ lot 0 6 3 1 ∷ lot 6 12 5 1 ∷ [])
     -- the first lot holds both trays from 1 to 3
     ∷ applied time_table 2 (lot 0 4 3 2 ∷ lot 0 9 2 1 ∷ []) Moved (lot 0 4 3 2 ∷ lot 2 9 2 1 ∷ [])
     ∷ applied time_table 2 (lot 0 4 3 2 ∷ lot 2 9 2 1 ∷ []) Moved (lot 0 4 3 2 ∷ lot 3 9 2 1 ∷ [])
@@ -81,4 +88,4 @@ worked =
 
 -- the whole list
 abbrev pub AllHold : Type 0
-AllHold = AllByRecursion Holds worked
+AllHold = AllByRecursion Holds worked_cases
