@@ -12,7 +12,7 @@ use Rattle.plan.proofs.Histories.{one_tray}
 use Rattle.plan.proofs.Tables.{empty_lawful, admitted_lawful, narrowed_lawful}
 use Rattle.sheet.specs.Lines.{Line, machine, name, lot, narrow, tighten, solve, Bounded}
 use Rattle.sheet.specs.Private.Desks.{Orderly}
-use Rattle.sheet.specs.Runs.{Desk, new_desk, head, Due, Runs, after}
+use Rattle.sheet.specs.Sheets.{Desk, new_desk, head, Due, CarriesOut, desk_after}
 
 pub new_orderly : Orderly new_desk
 new_orderly = record {
@@ -43,7 +43,7 @@ command_orderly D Q due ok count o = record {
   lawful = ok;
 }
 
-pub after_orderly : (m : Meaning) → Sound m → (D : Desk) (l : Line) (Q : Table) (out : List ℕ) → Bounded l → Due D l → Runs m D l Q out → Orderly D → Orderly (after D l Q)
+pub after_orderly : (m : Meaning) → Sound m → (D : Desk) (l : Line) (Q : Table) (out : List ℕ) → Bounded l → Due D l → CarriesOut m D l Q out → Orderly D → Orderly (desk_after D l Q)
 after_orderly m sound D (machine C n) Q out within due r o = record {
   begun = omega arith;
   few = within.1;

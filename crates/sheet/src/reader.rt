@@ -1,7 +1,7 @@
 //! Reads a sheet line by line.
-ghost use Rattle.std.specs.Prelude.{◌≡◌, ℕ, ◌≤◌, ◌↔◌, IsTrue, List, [], ◌∷◌, length, MatchOption};
-ghost use Rattle.sheet.specs.Lines.{Line as AnyLine, BeginsWithLine, newline};
-ghost use Rattle.sheet.specs.Private.Said.{said};
+ghost use Rattle.std.specs.Prelude.{◌≡◌, ℕ, ◌≤◌, ◌↔◌, IsTrue, List, [], ◌∷◌, length, IfNone, MatchOption};
+ghost use Rattle.sheet.specs.Lines.{BeginsWithLine, newline};
+ghost use Rattle.sheet.specs.Private.Said.{said_line};
 ghost use Rattle.sheet.specs.Private.Words.{BeginsWithNumber, BeginsWithNumbers, BeginsWithName, Takes};
 
 use crate::line::Line;
@@ -38,11 +38,10 @@ impl<'a> Reader<'a> {
         self.at == self.sheet.len()
     }
 
-    /// The next line. Where none comes next, nothing is read.
+    /// The next line. Where no line comes next, nothing is read.
     pub fn line(&mut self) -> Option<Line<'a>>
-        ensures answer { MatchOption result
-            (((l : AnyLine) (rest : List ℕ) → BeginsWithLine self.old l rest → ⊥)
-            × (self.new ≡ self.old)) (λ l. BeginsWithLine self.old (said l) self.new) }
+        ensures answer { Takes said_line (BeginsWithLine self.old) result self.new }
+        ensures unchanged { IfNone result (self.new ≡ self.old) }
     {
         let mut ahead = Reader {
             sheet: self.sheet,
