@@ -32,7 +32,7 @@ tightened_kept m sound P Q v k ok t =
     (subst (λ C. Lawful C Q.lots) (sym t.same_capacity) kept.lawful, sym (length_all_zip _ P.lots Q.lots kept.work))
 
 -- a command leaves a lawful plan of as many lots
-command_orderly : (D : Desk) (Q : Table) → head D.lots < D.line → Lawful Q.capacity Q.lots → length Q.lots ≡ length D.plan.lots → Orderly D → Orderly (record { line = suc D.line; lots = D.lots; names = D.names; plan = Q })
+command_orderly : (D : Desk) (Q : Table) → head D.lots < D.line → Lawful Q.capacity Q.lots → length Q.lots ≡ length D.plan.lots → Orderly D → Orderly (record D { line = suc D.line; plan = Q })
 command_orderly D Q due ok count o = record {
   begun = omega arith;
   few = o.few;

@@ -38,14 +38,19 @@ fn each_kind_of_print(rt: HostRuntime) {
 
 #[test]
 fn lines_that_are_not_due(rt: HostRuntime) {
-    assert!(rt; prints(b"", b"R 15 1\n"));
-    assert!(rt; prints(b"C 1 0", b"R 15 1\n"));
-    assert!(rt; prints(b"T\n", b"R 15 1\n"));
-    assert!(rt; prints(b"C 1 1\nN a\n", b"R 15 3\n"));
-    assert!(rt; prints(b"C 1 1\nN a\nB 1 0 5 1 1\n", b"R 15 3\n"));
-    assert!(rt; prints(b"C 1 1\nN a\nB 0 0 5 1 1\nB 1 0 5 1 1\n", b"R 15 4\n"));
-    assert!(rt; prints(b"C 1 0\nT\nC 1 0\n", b"T still 1\nR 15 3\n"));
-    assert!(rt; prints(b"C 1 0\nT\n\n", b"T still 1\nR 15 3\n"));
+    let sheets: [(&[u8], &[u8]); 8] = [
+        (b"", b"R 15 1\n"),
+        (b"C 1 0", b"R 15 1\n"),
+        (b"T\n", b"R 15 1\n"),
+        (b"C 1 1\nN a\n", b"R 15 3\n"),
+        (b"C 1 1\nN a\nB 1 0 5 1 1\n", b"R 15 3\n"),
+        (b"C 1 1\nN a\nB 0 0 5 1 1\nB 1 0 5 1 1\n", b"R 15 4\n"),
+        (b"C 1 0\nT\nC 1 0\n", b"T still 1\nR 15 3\n"),
+        (b"C 1 0\nT\n\n", b"T still 1\nR 15 3\n"),
+    ];
+    for (sheet, expected) in sheets {
+        assert!(rt; prints(sheet, expected));
+    }
 }
 
 #[test]
