@@ -12,7 +12,7 @@ use Rattle.plan.proofs.Histories.{one_tray}
 use Rattle.plan.proofs.Tables.{empty_lawful, admitted_lawful, narrowed_lawful}
 use Rattle.sheet.specs.Lines.{Line, machine, name, lot, narrow, tighten, solve, Bounded}
 use Rattle.sheet.specs.Private.Desks.{Orderly}
-use Rattle.sheet.specs.Runs.{Desk, new_desk, head, Due, Runs, after}
+use Rattle.sheet.specs.Sheets.{Desk, new_desk, head, Due, CarriesOut, desk_after}
 
 pub new_orderly : Orderly new_desk
 new_orderly = record {
@@ -32,7 +32,7 @@ tightened_kept m sound P Q v k ok t =
     (subst (λ C. Lawful C Q.lots) (sym t.same_capacity) kept.lawful, sym (length_all_zip _ P.lots Q.lots kept.work))
 
 -- a command leaves a lawful plan of as many lots
-command_orderly : (D : Desk) (Q : Table) → head D.lots < D.line → Lawful Q.capacity Q.lots → length Q.lots ≡ length D.plan.lots → Orderly D → Orderly (record { line = suc D.line; lots = D.lots; names = D.names; plan = Q })
+command_orderly : (D : Desk) (Q : Table) → head D.lots < D.line → Lawful Q.capacity Q.lots → length Q.lots ≡ length D.plan.lots → Orderly D → Orderly (record D { line = suc D.line; plan = Q })
 command_orderly D Q due ok count o = record {
   begun = omega arith;
   few = o.few;
@@ -43,7 +43,7 @@ command_orderly D Q due ok count o = record {
   lawful = ok;
 }
 
-pub after_orderly : (m : Meaning) → Sound m → (D : Desk) (l : Line) (Q : Table) (out : List ℕ) → Bounded l → Due D l → Runs m D l Q out → Orderly D → Orderly (after D l Q)
+pub after_orderly : (m : Meaning) → Sound m → (D : Desk) (l : Line) (Q : Table) (out : List ℕ) → Bounded l → Due D l → CarriesOut m D l Q out → Orderly D → Orderly (desk_after D l Q)
 after_orderly m sound D (machine C n) Q out within due r o = record {
   begun = omega arith;
   few = within.1;

@@ -9,12 +9,12 @@ use Rattle.std.proofs.lemmas.Bool.{cases_eq, cases_lt}
 use Rattle.std.proofs.lemmas.Fmt.{digits_decimal, digits_value-decimal, decimal-digits_value}
 use Rattle.lots.specs.Limits.{max_lots}
 use Rattle.lots.specs.Texts.{numbers, space, digit_zero}
-use Rattle.sheet.specs.Lines.{Line, written, machine, name, lot, narrow, tighten, solve, newline, first_printable, last_printable, max_name, max_number, max_budget, Printable, BeginsWithLine}
+use Rattle.sheet.specs.Lines.{Line, written_line, machine, name, lot, narrow, tighten, solve, newline, first_printable, last_printable, max_name, max_number, max_budget, Printable, BeginsWithLine}
 use Rattle.sheet.specs.Private.Words.{BeginsNumeral, digit_one, digit_nine, StopsAfterNumbers, Stops, BeginsBy, BeginsWithNumber, BeginsWithNumbers, BeginsWithName}
 use Rattle.sheet.proofs.Letters.{machine_letter, name_letter, lot_letter, narrow_letter, tighten_letter, solve_letter, no_machine, no_machine_of_many, no_lot, no_narrow, no_solve, no_name, no_letter, no_empty_line, not_ended}
 use Rattle.sheet.proofs.Lines.{stretch_one, number_one, numbers_stop, newline_follows}
 use Rattle.sheet.proofs.Numerals.{digits, no_numeral, zero_alone}
-use Rattle.sheet.proofs.Reading.{ends, numbers_cut, number_first, no_more_numbers, too_great}
+use Rattle.sheet.proofs.Reading.{stops_after_numbers, numbers_cut, number_first, no_more_numbers, too_great}
 
 -- R holds of something, before some rest, or of nothing
 abbrev Found : {X : Type 0} → (X → List ℕ → Type 0) → Type 0
@@ -88,7 +88,7 @@ no_others count bs n mid read none [] more begins = absurd (omega (arith, begins
 no_others count bs n mid read none (k ∷ ks) more begins =
     let same = ap (drop 1) (sym (number_first bs n mid read.0) ∙ begins.0 ∙ numbers_cut k ks more) in
     let one = number_one n k mid (numbers ks ++ more) (omega (arith, read.1)) (omega (arith, begins.2.0)) read.2 (numbers_stop ks more begins.3) same in
-    none ks more (one.1, omega (arith, begins.1), begins.2.1, ends ks more begins.3)
+    none ks more (one.1, omega (arith, begins.1), begins.2.1, stops_after_numbers ks more begins.3)
 
 numbers_found : (count : ℕ) (bs : List ℕ) → Found (BeginsWithNumbers count bs)
 numbers_found zero bs = inl ([], bs, (refl, refl, tt, tt))
@@ -171,7 +171,7 @@ ended_found : (bs : List ℕ) (letter : ℕ) (words : List ℕ) → bs ≡ lette
 ended_found bs letter words is (inr none) = inr (λ l rest begins. none l (newline ∷ rest) (sym is ∙ begins.0, begins.1, newline_follows l rest))
 ended_found bs letter words is (inl (l, [], read)) = inr (not_ended bs l letter words [] is read (λ rest same. omega (arith, ap length same)))
 ended_found bs letter words is (inl (l, b ∷ rest, read)) = elim (cases_eq b newline) [
-  | inl ends ↦ inl (l, rest, (is ∙ read.0 ∙ ap (λ x. written l ++ x ∷ rest) ends, read.1))
+  | inl ends ↦ inl (l, rest, (is ∙ read.0 ∙ ap (λ x. written_line l ++ x ∷ rest) ends, read.1))
   | inr other ↦ inr (not_ended bs l letter words (b ∷ rest) is read (λ more same. other (ap (λ xs. get_or xs 0 0) same)))
 ]
 

@@ -1,7 +1,7 @@
 -- The letter that a line begins with decides what it says.
 use Rattle.std.proofs.Common.{◌≡◌, ℕ, ◌<◌, List, [], ◌∷◌, length, length-append, get_or, drop, sym, ap, refl, ◌∙◌, arith, rules}
 use Rattle.lots.specs.Limits.{max_lots}
-use Rattle.sheet.specs.Lines.{Line, written, machine, name, lot, narrow, tighten, solve, newline, BeginsWithLine}
+use Rattle.sheet.specs.Lines.{Line, written_line, machine, name, lot, narrow, tighten, solve, newline, BeginsWithLine}
 use Rattle.sheet.specs.Private.Words.{BeginsBy, BeginsWithNumber, BeginsWithNumbers, BeginsWithName}
 use Rattle.sheet.proofs.Lines.{numbers_one, first_one, newline_follows}
 
@@ -61,7 +61,7 @@ no_letter letter bs no_c no_n no_b no_h no_t no_s tighten rest begins = no_t (ap
 no_letter letter bs no_c no_n no_b no_h no_t no_s (solve budget) rest begins = no_s (ap (λ bytes. get_or bytes 0 0) begins.0)
 
 pub no_empty_line : (l : Line) (rest : List ℕ) → BeginsWithLine [] l rest → ⊥
-no_empty_line l rest begins = omega (arith, ap length begins.0, length-append (written l) (newline ∷ rest))
+no_empty_line l rest begins = omega (arith, ap length begins.0, length-append (written_line l) (newline ∷ rest))
 
 -- a line that no newline follows is no line
 pub not_ended : (bs : List ℕ) (l : Line) (letter : ℕ) (words after : List ℕ) → bs ≡ letter ∷ words → BeginsBy letter words l after → ((rest : List ℕ) → after ≡ newline ∷ rest → ⊥) → (k : Line) (more : List ℕ) → BeginsWithLine bs k more → ⊥

@@ -1,12 +1,12 @@
--- A text begins with one line at most, and a line is not long.
-use Rattle.std.proofs.Common.{◌≡◌, ℕ, ◌+◌, ◌*◌, ◌^◌, ◌<◌, ◌≤◌, List, [], ◌∷◌, ◌++◌, length, get_or, drop, sym, ap, subst, refl, ◌∙◌, append_assoc, arith, rules, length-append}
+-- A text begins with one line at most, and how long its numbers are.
+use Rattle.std.proofs.Common.{◌≡◌, ℕ, ◌+◌, ◌^◌, ◌<◌, ◌≤◌, List, [], ◌∷◌, ◌++◌, length, get_or, drop, sym, ap, subst, refl, ◌∙◌, append_assoc, arith, rules, length-append}
 use Rattle.std.specs.Char.{IsAsciiDigit}
 use Rattle.std.specs.Fmt.{decimal}
 use Rattle.std.specs.List.{AllByRecursion}
 use Rattle.std.proofs.lemmas.Fmt.{digits_decimal, decimal_injective, length-decimal-le}
 use Rattle.lots.specs.Texts.{numbers}
 use Rattle.rule.specs.Laws.Tables.{lot_path}
-use Rattle.sheet.specs.Lines.{newline, max_number, max_budget, Line, machine, name, lot, narrow, tighten, solve, written, Bounded, Printable, BeginsWithLine}
+use Rattle.sheet.specs.Lines.{newline, max_number, max_budget, Line, machine, name, lot, narrow, tighten, solve, written_line, Bounded, Printable, BeginsWithLine}
 use Rattle.sheet.specs.Private.Words.{Stops, StopsAfter}
 use Rattle.sheet.proofs.Numerals.{digits}
 
@@ -50,7 +50,7 @@ numbers_one (n ∷ ns) (k ∷ ks) rest more count small low stops ends same =
 
 -- lines
 
-pub first_one : (l k : Line) (rest more : List ℕ) → Bounded l → Bounded k → StopsAfter l rest → StopsAfter k more → written l ++ rest ≡ written k ++ more → (l ≡ k) × (rest ≡ more)
+pub first_one : (l k : Line) (rest more : List ℕ) → Bounded l → Bounded k → StopsAfter l rest → StopsAfter k more → written_line l ++ rest ≡ written_line k ++ more → (l ≡ k) × (rest ≡ more)
 first_one (machine C n) (machine D m) rest more within low stops ends same =
     let one = numbers_one (C ∷ n ∷ []) (D ∷ m ∷ []) rest more refl (search rules) (search rules) stops ends (ap (drop 1) same) in
     (cc one.0, one.1)
@@ -99,20 +99,3 @@ length_million n within = length-decimal-le 6 n (omega arith) (omega arith) (ome
 
 pub length_numbers : (n : ℕ) (ns : List ℕ) → length (numbers (n ∷ ns)) ≡ 1 + length (decimal n) + length (numbers ns)
 length_numbers n ns = omega (arith, length-append (decimal n) (numbers ns))
-
--- numbers of at most five digits, each after a space
-pub length_numbers_le : (ns : List ℕ) → AllByRecursion (λ n. n ≤ max_number) ns → length (numbers ns) ≤ 6 * length ns
-length_numbers_le [] within = omega arith
-length_numbers_le (n ∷ ns) within = omega (arith, length_numbers n ns, length_number n within.0, length_numbers_le ns within.1)
-
--- the longest line writes a lot
-abbrev pub max_line : ℕ
-max_line = 31
-
-pub length_written : (l : Line) → Bounded l → length (written l) ≤ max_line
-length_written (machine C n) within = omega (arith, length_numbers_le (C ∷ n ∷ []) (search rules))
-length_written (name w) within = omega arith
-length_written (lot i x) within = omega (arith, length_numbers_le (i ∷ x.est ∷ x.lct ∷ x.p ∷ x.c ∷ []) (search rules))
-length_written (narrow i from to) within = omega (arith, length_numbers_le (i ∷ from ∷ to ∷ []) (search rules))
-length_written tighten within = omega arith
-length_written (solve budget) within = omega (arith, length_numbers budget [], length_budget budget within)

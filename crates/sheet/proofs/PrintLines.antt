@@ -1,21 +1,16 @@
 -- The lines of windows and of starts, one after another.
 use Rattle.std.proofs.Common.{◌≡◌, ℕ, List, [], ◌∷◌, ◌++◌, length, take, codes, refl, arith}
 use Rattle.std.specs.Borrow.{Bor}
-use Rattle.lots.specs.Texts.{numbers}
 use Rattle.lots.specs.declared.Lot.{Lot}
 use Rattle.sheet.specs.Private.Pages.{bytes_of}
-use Rattle.sheet.specs.PrintLines.{ended, window_lines, start_lines}
-
--- a line of a word, some numbers and a name
-abbrev pub named : List ℕ → List ℕ → List ℕ → List ℕ
-named word ns w = ended (word ++ (numbers ns ++ (codes " " ++ w)))
+use Rattle.sheet.specs.PrintLines.{named_line, window_lines, start_lines}
 
 pub windows_from : (ws us : List (Bor (List ℕ))) (xs ys : List Lot) (w : Bor (List ℕ)) (x : Lot) (a b : ℕ) → ws ≡ w ∷ us → xs ≡ x ∷ ys → a ≡ x.est → b ≡ x.lct
-    → window_lines (bytes_of ws) xs ≡ named (codes "W") (a ∷ b ∷ []) w.now ++ window_lines (bytes_of us) ys
+    → window_lines (bytes_of ws) xs ≡ named_line (codes "W") (a ∷ b ∷ []) w.now ++ window_lines (bytes_of us) ys
 windows_from ws us xs ys w x a b e f g h = rw (e, f, g, h) refl
 
 pub starts_from : (ws us : List (Bor (List ℕ))) (ss ts : List ℕ) (w : Bor (List ℕ)) (s a : ℕ) → ws ≡ w ∷ us → ss ≡ s ∷ ts → a ≡ s
-    → start_lines (bytes_of ws) (take (length ws) ss) ≡ named (codes "A") (a ∷ []) w.now ++ start_lines (bytes_of us) (take (length us) ts)
+    → start_lines (bytes_of ws) (take (length ws) ss) ≡ named_line (codes "A") (a ∷ []) w.now ++ start_lines (bytes_of us) (take (length us) ts)
 starts_from ws us ss ts w s a e f g = rw (e, f, g) refl
 
 pub no_windows_unnamed : (ws : List (Bor (List ℕ))) (xs : List Lot) → length ws ≡ 0 → window_lines (bytes_of ws) xs ≡ []

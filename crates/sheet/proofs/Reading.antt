@@ -18,11 +18,11 @@ pub at_end : (at : ℕ) (sheet : List ℕ) → at ≤ length sheet → drop at s
 at_end at sheet within none = omega (arith, length-drop at sheet, ap length none)
 
 -- the first n bytes are of the kind, and the next is not
-run_cut : (P : ℕ → Type 0) (bs : List ℕ) (n : ℕ) → n ≤ length bs → ((k : ℕ) → k < n → P (get_or bs k 0)) → (n < length bs → P (get_or bs n 0) → ⊥) → AllByRecursion P (take n bs) × Stops P (drop n bs)
-run_cut P [] n within each stops = let none : n ≡ 0 = omega arith in rw none (tt, tt)
-run_cut P (b ∷ bs) zero within each stops = (tt, stops (omega arith))
-run_cut P (b ∷ bs) (suc n) within each stops =
-    let cut = run_cut P bs n (omega arith) (λ k below. each (suc k) (omega arith)) (λ below. stops (omega arith)) in
+stretch_cut : (P : ℕ → Type 0) (bs : List ℕ) (n : ℕ) → n ≤ length bs → ((k : ℕ) → k < n → P (get_or bs k 0)) → (n < length bs → P (get_or bs n 0) → ⊥) → AllByRecursion P (take n bs) × Stops P (drop n bs)
+stretch_cut P [] n within each stops = let none : n ≡ 0 = omega arith in rw none (tt, tt)
+stretch_cut P (b ∷ bs) zero within each stops = (tt, stops (omega arith))
+stretch_cut P (b ∷ bs) (suc n) within each stops =
+    let cut = stretch_cut P bs n (omega arith) (λ k below. each (suc k) (omega arith)) (λ below. stops (omega arith)) in
     ((each 0 (omega arith), cut.0), cut.1)
 
 -- what follows the space is the word, and what comes after it
@@ -30,7 +30,7 @@ pub word_cut : (P : ℕ → Type 0) (sheet : List ℕ) (at : ℕ) (w : List ℕ)
     → (drop at sheet ≡ space ∷ (w ++ drop (p + length w) sheet)) × AllByRecursion P w × Stops P (drop (p + length w) sheet)
 word_cut P sheet at w p word =
     let rest = drop p sheet in
-    let cut = run_cut P rest (length w) (omega (arith, length-drop p sheet, word.within)) word.whole.each word.whole.stops in
+    let cut = stretch_cut P rest (length w) (omega (arith, length-drop p sheet, word.within)) word.whole.each word.whole.stops in
     let within : at < length sheet = omega (arith, word.next, word.within) in
     let first : drop at sheet ≡ space ∷ rest = drop-cons sheet at 0 within ∙ rw (word.spaced, word.next, add-one) refl in
     let parts : rest ≡ w ++ drop (p + length w) sheet = sym (take-append-drop (length w) rest) ∙ ap₂ (λ x y. x ++ y) (sym word.part) (drop-drop (length w) p sheet) in
@@ -39,8 +39,8 @@ word_cut P sheet at w p word =
 pub letter_taken : (sheet : List ℕ) (at : ℕ) (t : Token) (r : Option ℕ) → CommandAt sheet at t → Reads (Letter t) r → MatchOption r (drop at sheet ≡ []) (λ c. drop at sheet ≡ c ∷ drop (end_of t) sheet)
 letter_taken sheet at (Name w p) r stands reads = absurd stands
 letter_taken sheet at (Number w p) r stands reads = absurd stands
-letter_taken sheet at (Command c p) None stands reads = absurd (reads c refl)
-letter_taken sheet at (Command c p) (Some d) stands reads = rw (← stands.0, ← reads, stands.2, add-one) (drop-cons sheet p 0 stands.1)
+letter_taken sheet at (Command b p) None stands reads = absurd (reads b.now refl)
+letter_taken sheet at (Command b p) (Some c) stands reads = rw (← stands.0, ← reads, stands.2, add-one) (drop-cons sheet p 0 stands.1)
 
 -- a number that the bytes begin with, without the list of one number
 pub number_first : (bs : List ℕ) (n : ℕ) (rest : List ℕ) → bs ≡ numbers (n ∷ []) ++ rest → bs ≡ space ∷ (decimal n ++ rest)
@@ -72,9 +72,10 @@ name_taken sheet at (Name w p) (Some v) stands reads =
 
 -- numbers one after another
 
-pub ends : (ns rest : List ℕ) → Stops IsAsciiDigit rest → StopsAfterNumbers ns rest
-ends [] rest stops = tt
-ends (n ∷ ns) rest stops = stops
+-- after numbers with no digit after them
+pub stops_after_numbers : (ns rest : List ℕ) → Stops IsAsciiDigit rest → StopsAfterNumbers ns rest
+stops_after_numbers [] rest stops = tt
+stops_after_numbers (n ∷ ns) rest stops = stops
 
 pub numbers_cut : (n : ℕ) (ns rest : List ℕ) → numbers (n ∷ ns) ++ rest ≡ space ∷ (decimal n ++ (numbers ns ++ rest))
 numbers_cut n ns rest = ap (λ bs. space ∷ bs) (append_assoc (decimal n) (numbers ns) rest)
@@ -88,7 +89,7 @@ no_more_numbers [] bs mid read count begun none less (k ∷ ks) rest begins =
 no_more_numbers (n ∷ ns) bs mid read count begun none less (k ∷ ks) rest begins =
     let same = ap (drop 1) (sym (numbers_cut n ns mid) ∙ sym begun.0 ∙ begins.0 ∙ numbers_cut k ks rest) in
     let one = number_one n k (numbers ns ++ mid) (numbers ks ++ rest) (omega (arith, begun.2.0)) (omega (arith, begins.2.0)) (numbers_stop ns mid begun.3) (numbers_stop ks rest begins.3) same in
-    no_more_numbers ns (numbers ns ++ mid) mid (length ns) (length ks) (refl, refl, begun.2.1, ends ns mid begun.3) none (omega (arith, begun.1, begins.1)) ks rest (one.1, refl, begins.2.1, ends ks rest begins.3)
+    no_more_numbers ns (numbers ns ++ mid) mid (length ns) (length ks) (refl, refl, begun.2.1, stops_after_numbers ns mid begun.3) none (omega (arith, begun.1, begins.1)) ks rest (one.1, refl, begins.2.1, stops_after_numbers ks rest begins.3)
 
 -- a number that is too great is no number of 16 bits
 pub too_great : (mid : List ℕ) (n : ℕ) (rest : List ℕ) → BeginsWithNumber mid n rest → max_number < n → (k : ℕ) (more : List ℕ) → k ≤ max_number → BeginsWithNumber mid k more → ⊥

@@ -15,9 +15,9 @@ use Rattle.tree.proofs.Answers.{solved_some}
 use Rattle.plan.specs.Tables.{empty, with_lot, with_lot_between}
 use Rattle.plan.proofs.Some.{opened_some, admitted_some, narrowed_some, tightened_some}
 use Rattle.sheet.specs.Private.Desks.{Orderly}
-use Rattle.sheet.specs.Lines.{Line, machine, name, lot, narrow, tighten, solve, written, newline}
+use Rattle.sheet.specs.Lines.{Line, machine, name, lot, narrow, tighten, solve, written_line, newline}
 use Rattle.sheet.specs.PrintLines.{narrow_print, tighten_print, solve_print, refusal_print}
-use Rattle.sheet.specs.Runs.{Desk, new_desk, head, Due, MayEnd, max_sheet, whole_sheet, max_commands, Runs, Refuses, after, Prints, runs, refused, ninth, PrintOf}
+use Rattle.sheet.specs.Sheets.{Desk, new_desk, head, Due, MayEnd, max_sheet, whole_sheet, max_commands, CarriesOut, Refuses, desk_after, Prints, carried_out, refused, ninth, PrintOf}
 use Rattle.sheet.proofs.Desks.{new_orderly, after_orderly}
 use Rattle.sheet.proofs.Finding.{find_line}
 use Rattle.sheet.proofs.Steps.{no_line, not_due, prints_end}
@@ -42,7 +42,7 @@ serves n B few some =
 module _ (m : Meaning) (sound : Sound m) where
   -- what comes of a line that is due
   abbrev Comes : Desk → Line → Type 0
-  Comes D l = ((Q : Table) × (out : List ℕ) × Runs m D l Q out) ⊎ ((e : Refusal) × Refuses m D l e)
+  Comes D l = ((Q : Table) × (out : List ℕ) × CarriesOut m D l Q out) ⊎ ((e : Refusal) × Refuses m D l e)
 
   searches : (D : Desk) (B : ℕ) → Orderly D → Comes D (solve B)
   searches D B o =
@@ -82,9 +82,9 @@ module _ (m : Meaning) (sound : Sound m) where
             | inr time ↦ elim (line_comes D l o) [
               | inr r ↦ (refusal_print r.0 D.line, refused l rest r.0 (begins, due) time r.1)
               | inl ran ↦
-                  let shorter : length rest < length bs = omega (arith, ap length begins.0, length-append (written l) (newline ∷ rest)) in
-                  let later = more (after D l ran.0) rest shorter (after_orderly m sound D l ran.0 ran.1 begins.1 due ran.2 o) in
-                  (ran.1 ++ later.0, runs l ran.0 ran.1 later.0 (begins, due) time ran.2 later.1)
+                  let shorter : length rest < length bs = omega (arith, ap length begins.0, length-append (written_line l) (newline ∷ rest)) in
+                  let later = more (desk_after D l ran.0) rest shorter (after_orderly m sound D l ran.0 ran.1 begins.1 due ran.2 o) in
+                  (ran.1 ++ later.0, carried_out l ran.0 ran.1 later.0 (begins, due) time ran.2 later.1)
             ]
           ]
         ]

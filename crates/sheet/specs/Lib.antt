@@ -1,4 +1,4 @@
 pub mod Lines
 pub mod PrintLines
-pub mod Runs
+pub mod Sheets
 pub mod Private

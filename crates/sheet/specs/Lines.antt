@@ -43,13 +43,13 @@ pub data Line : Type 0 where
   solve : ℕ → Line
 
 -- the bytes of a line, but for the one that ends it
-abbrev pub written : Line → List ℕ
-written (machine C n) = codes "C" ++ numbers (C ∷ n ∷ [])
-written (name w) = codes "N " ++ w
-written (lot i x) = codes "B" ++ numbers (i ∷ x.est ∷ x.lct ∷ x.p ∷ x.c ∷ [])
-written (narrow i from to) = codes "H" ++ numbers (i ∷ from ∷ to ∷ [])
-written tighten = codes "T"
-written (solve budget) = codes "S" ++ numbers (budget ∷ [])
+abbrev pub written_line : Line → List ℕ
+written_line (machine C n) = codes "C" ++ numbers (C ∷ n ∷ [])
+written_line (name w) = codes "N " ++ w
+written_line (lot i x) = codes "B" ++ numbers (i ∷ x.est ∷ x.lct ∷ x.p ∷ x.c ∷ [])
+written_line (narrow i from to) = codes "H" ++ numbers (i ∷ from ∷ to ∷ [])
+written_line tighten = codes "T"
+written_line (solve budget) = codes "S" ++ numbers (budget ∷ [])
 
 abbrev pub Printable : ℕ → Type 0
 Printable b = IsInRange first_printable last_printable b
@@ -62,11 +62,12 @@ Named w = (1 ≤ length w) × (length w ≤ max_name) × AllByRecursion Printabl
 abbrev pub Bounded : Line → Type 0
 Bounded (machine C n) = (C ≤ max_number) × (n ≤ max_lots)
 Bounded (name w) = Named w
-Bounded (lot i x) = (i ≤ max_number) × (x.est ≤ max_number) × (x.lct ≤ max_number) × (x.p ≤ max_number) × (x.c ≤ max_number)
+Bounded (lot i x) =
+    (i ≤ max_number) × (x.est ≤ max_number) × (x.lct ≤ max_number) × (x.p ≤ max_number) × (x.c ≤ max_number)
 Bounded (narrow i from to) = (i ≤ max_number) × (from ≤ max_number) × (to ≤ max_number)
 Bounded tighten = Unit {0}
 Bounded (solve budget) = budget ≤ max_budget
 
 -- the bytes begin with a line, and `rest` comes after it
 abbrev pub BeginsWithLine : List ℕ → Line → List ℕ → Type 0
-BeginsWithLine bs l rest = (bs ≡ written l ++ newline ∷ rest) × Bounded l
+BeginsWithLine bs l rest = (bs ≡ written_line l ++ newline ∷ rest) × Bounded l

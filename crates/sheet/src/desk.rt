@@ -1,14 +1,14 @@
-//! The desk at which a sheet is run: what is known of it so far.
+//! The desk at which the lines of a sheet are carried out: what is known of it so far.
 ghost use Rattle.std.specs.Prelude.{◌≡◌, ℕ, ◌<◌, ◌↔◌, IsTrue, length};
 ghost use Rattle.lots.specs.Limits.{max_lots};
 ghost use Rattle.rule.specs.Meanings.{Meaning};
 ghost use Rattle.sheet.specs.Private.Desks.{HasLine};
-ghost use Rattle.sheet.specs.Lines.{machine, name as named, lot as lot_line, narrow as narrow_line, tighten as tighten_line, solve as solve_line};
+ghost use Rattle.sheet.specs.Lines.{machine as machine_line, name as name_line, lot as lot_line, narrow as narrow_line, tighten as tighten_line, solve as solve_line};
 ghost use Rattle.sheet.specs.Private.Pages.{HasRoom};
 ghost use Rattle.sheet.specs.PrintLines.{narrow_print};
-ghost use Rattle.sheet.specs.Runs.{new_desk, head, Due, MayEnd, Full};
-ghost use Rattle.sheet.specs.Private.Said.{said};
-ghost use Rattle.sheet.specs.Private.Steps.{Ready, Ran};
+ghost use Rattle.sheet.specs.Sheets.{new_desk, head, Due, MayEnd, Full};
+ghost use Rattle.sheet.specs.Private.Said.{said_line};
+ghost use Rattle.sheet.specs.Private.Steps.{Ready, CarriedOut};
 ghost use Rattle.sheet.specs.declared.page.Page.{Page};
 
 use crate::line::Line;
@@ -36,12 +36,17 @@ pub(crate) struct Desk<'a> {
 
 // Clauses see the desk of the definitions.
 impl<'a> Model for Desk<'a> {
-    ghost use Rattle.sheet.specs.Runs.{Desk as AnyDesk};
+    ghost use Rattle.sheet.specs.Sheets.{Desk as AnyDesk};
     ghost use Rattle.sheet.specs.Private.Pages.{bytes_of};
 
     ghost Value = { AnyDesk };
 
-    ghost view = { λ d. record { line = d.line; lots = d.lots; names = bytes_of d.names.items; plan = d.plan } };
+    ghost view = { λ d. record {
+      line = d.line;
+      lots = d.lots;
+      names = bytes_of d.names.items;
+      plan = d.plan;
+    } };
 }
 
 impl<'a> Desk<'a> {
@@ -70,7 +75,7 @@ impl<'a> Desk<'a> {
         self.line > self.head()
     }
 
-    /// Whether all commands that a sheet may have were run.
+    /// Whether all commands that a sheet may have were carried out.
     pub fn is_full(&self) -> bool
         ensures answer { IsTrue result ↔ Full self.now }
     {
@@ -79,7 +84,7 @@ impl<'a> Desk<'a> {
 
     /// Whether the line is of the form that is due.
     pub fn is_due(&self, line: &Line<'_>) -> bool
-        ensures answer { IsTrue result ↔ Due self.now (said line.now) }
+        ensures answer { IsTrue result ↔ Due self.now (said_line line.now) }
     {
         let lots = u32::from(self.lots);
         match *line {
@@ -101,17 +106,17 @@ impl<'a> Desk<'a> {
         1 + 2 * u32::from(self.lots)
     }
 
-    /// Runs a line that is due, and prints what it answers.
+    /// Carries out a line that is due, and prints what it answers.
     pub fn run<R: Rule>(
         &mut self,
         rule: &R,
         line: Line<'a>,
         page: &mut Page<'_>,
     ) -> Result<(), Refusal>
-        requires ready { Ready self.old (said line) page.old }
+        requires ready { Ready self.old (said_line line) page.old }
         ensures same_buffer { page.new.buffer.ghost_name ≡ page.old.buffer.ghost_name }
-        ensures ran { Ran (R.meaning rule.now) self.old (said line.entry) self.new page.old page.new
-            result }
+        ensures ran { CarriedOut (R.meaning rule.now) self.old (said_line line.entry) self.new
+            page.old page.new result }
     {
         match line {
             Line::Machine { capacity, lots } => self.open(capacity, lots),
@@ -126,7 +131,7 @@ impl<'a> Desk<'a> {
     fn open(&mut self, capacity: u16, lots: u16) -> Result<(), Refusal>
         requires has_line { HasLine self.old }
         ensures answer { (m : Meaning) (p : Page)
-            → Ran m self.old (machine capacity lots) self.new p p result }
+            → CarriedOut m self.old (machine_line capacity lots) self.new p p result }
     {
         self.plan.open(capacity)?;
         self.lots = lots;
@@ -139,7 +144,7 @@ impl<'a> Desk<'a> {
         requires has_line { HasLine self.old }
         requires few { length self.old.names < max_lots }
         ensures answer { (m : Meaning) (p : Page)
-            → Ran m self.old (named name.now) self.new p p result }
+            → CarriedOut m self.old (name_line name.now) self.new p p result }
     {
         self.names.push(name);
         self.line += 1;
@@ -149,7 +154,7 @@ impl<'a> Desk<'a> {
     fn admit(&mut self, lot: Lot) -> Result<(), Refusal>
         requires has_line { HasLine self.old }
         ensures answer { (m : Meaning) (i : ℕ) (p : Page)
-            → Ran m self.old (lot_line i lot) self.new p p result }
+            → CarriedOut m self.old (lot_line i lot) self.new p p result }
     {
         self.plan.admit(lot)?;
         self.line += 1;
@@ -161,7 +166,7 @@ impl<'a> Desk<'a> {
         requires room { HasRoom page.old narrow_print }
         ensures same_buffer { page.new.buffer.ghost_name ≡ page.old.buffer.ghost_name }
         ensures ran { (m : Meaning)
-            → Ran m self.old (narrow_line lot from to) self.new page.old page.new result }
+            → CarriedOut m self.old (narrow_line lot from to) self.new page.old page.new result }
     {
         self.plan.narrow(lot.into(), from, to)?;
         print_narrow(page);
@@ -172,8 +177,8 @@ impl<'a> Desk<'a> {
     fn tighten<R: Rule>(&mut self, rule: &R, page: &mut Page<'_>) -> Result<(), Refusal>
         requires ready { Ready self.old tighten_line page.old }
         ensures same_buffer { page.new.buffer.ghost_name ≡ page.old.buffer.ghost_name }
-        ensures ran { Ran (R.meaning rule.now) self.old tighten_line self.new page.old page.new
-            result }
+        ensures ran { CarriedOut (R.meaning rule.now) self.old tighten_line self.new
+            page.old page.new result }
     {
         let (verdict, applications) = self.plan.tighten(rule);
         print_tighten(page, verdict, applications, &self.names, self.plan.lots());
@@ -184,8 +189,8 @@ impl<'a> Desk<'a> {
     fn solve<R: Rule>(&mut self, rule: &R, budget: u32, page: &mut Page<'_>) -> Result<(), Refusal>
         requires ready { Ready self.old (solve_line budget) page.old }
         ensures same_buffer { page.new.buffer.ghost_name ≡ page.old.buffer.ghost_name }
-        ensures ran { Ran (R.meaning rule.now) self.old (solve_line budget) self.new page.old
-            page.new result }
+        ensures ran { CarriedOut (R.meaning rule.now) self.old (solve_line budget) self.new
+            page.old page.new result }
     {
         let mut trail = [Lot::default(); MAX_TRAIL];
         let mut starts = [0; MAX_LOTS];

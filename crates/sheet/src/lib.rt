@@ -1,5 +1,5 @@
-//! The sheet of a shift: its lines are run in order as they are read, and what they answer is
-//! printed.
+//! The sheet of a shift: its lines are carried out in order as they are read, and what they answer
+//! is printed.
 #![tactic(auto)]
 
 mod desk;

@@ -1,5 +1,5 @@
 //! The lines of a sheet.
-ghost use Rattle.sheet.specs.Private.Said.{said};
+ghost use Rattle.sheet.specs.Private.Said.{said_line};
 ghost use Rattle.sheet.specs.Private.Words.{Takes, BeginsBy};
 
 use crate::reader::Reader;
@@ -19,7 +19,7 @@ pub(crate) enum Line<'a> {
 impl<'a> Line<'a> {
     /// The line that begins with the letter and goes on with the words.
     pub fn read(letter: char, words: &mut Reader<'a>) -> Option<Line<'a>>
-        ensures answer { Takes said (BeginsBy letter words.old) result words.new }
+        ensures answer { Takes said_line (BeginsBy letter words.old) result words.new }
     {
         match letter {
             'C' => {

@@ -1,8 +1,7 @@
 //! What is printed for each command, and for a refusal.
-ghost use Rattle.std.specs.Prelude.{◌≡◌, ◌++◌, length, codes, take};
-ghost use Rattle.lots.specs.Texts.{numbers as written_numbers};
+ghost use Rattle.std.specs.Prelude.{◌≡◌, length, take};
 ghost use Rattle.sheet.specs.Private.Pages.{Adds, HasRoom, bytes_of};
-ghost use Rattle.sheet.specs.PrintLines.{ended, narrow_print, tighten_print, window_lines, start_lines, solve_print, refusal_print};
+ghost use Rattle.sheet.specs.PrintLines.{numbers_line, named_line, narrow_print, tighten_print, window_lines, start_lines, solve_print, refusal_print};
 
 use crate::page::Page;
 use lots::{Lot, Refusal};
@@ -25,8 +24,8 @@ pub(crate) fn print_refusal(page: &mut Page<'_>, refusal: Refusal, line: u32)
     print_numbers(page, b"R", &[u8::from(refusal).into(), line]);
 }
 
-/// The verdict and the number of applications, and then the windows of the lots afterwards, unless
-/// they are dead.
+/// Prints the verdict and the number of applications, and then the windows of the lots afterwards,
+/// unless the verdict is dead.
 pub(crate) fn print_tighten(
     page: &mut Page<'_>,
     verdict: Verdict,
@@ -48,7 +47,8 @@ pub(crate) fn print_tighten(
     print_windows(page, names, lots);
 }
 
-/// What a search answers, and the starts of the best schedule, the first of those in `starts`.
+/// Prints what a search answers, and with a best schedule its starts, the first of those in
+/// `starts`.
 pub(crate) fn print_solve(page: &mut Page<'_>, answer: Search, names: &[&[u8]], starts: &[u16])
     requires room { HasRoom page.old (solve_print answer (bytes_of names.now) starts.now) }
     ensures same_buffer { page.new.buffer.ghost_name ≡ page.old.buffer.ghost_name }
@@ -88,9 +88,9 @@ fn print_starts(page: &mut Page<'_>, names: &[&[u8]], starts: &[u16])
 
 // A line of a word and some numbers.
 fn print_numbers(page: &mut Page<'_>, word: &[u8], numbers: &[u32])
-    requires room { HasRoom page.old (ended (word.now ++ written_numbers numbers.now)) }
+    requires room { HasRoom page.old (numbers_line word.now numbers.now) }
     ensures same_buffer { page.new.buffer.ghost_name ≡ page.old.buffer.ghost_name }
-    ensures adds { Adds page.old (ended (word.now ++ written_numbers numbers.now)) page.new }
+    ensures adds { Adds page.old (numbers_line word.now numbers.now) page.new }
 {
     page.put(word);
     page.put_numbers(numbers);
@@ -99,11 +99,9 @@ fn print_numbers(page: &mut Page<'_>, word: &[u8], numbers: &[u32])
 
 // A line of a word, some numbers and a name.
 fn print_named(page: &mut Page<'_>, word: &[u8], numbers: &[u32], name: &[u8])
-    requires room { HasRoom page.old
-        (ended (word.now ++ (written_numbers numbers.now ++ (codes " " ++ name.now)))) }
+    requires room { HasRoom page.old (named_line word.now numbers.now name.now) }
     ensures same_buffer { page.new.buffer.ghost_name ≡ page.old.buffer.ghost_name }
-    ensures adds { Adds page.old
-        (ended (word.now ++ (written_numbers numbers.now ++ (codes " " ++ name.now)))) page.new }
+    ensures adds { Adds page.old (named_line word.now numbers.now name.now) page.new }
 {
     page.put(word);
     page.put_numbers(numbers);

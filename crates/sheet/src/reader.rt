@@ -1,7 +1,7 @@
 //! Reads a sheet line by line.
-ghost use Rattle.std.specs.Prelude.{◌≡◌, ℕ, ◌≤◌, ◌↔◌, IsTrue, List, [], ◌∷◌, length, MatchOption};
-ghost use Rattle.sheet.specs.Lines.{Line as AnyLine, BeginsWithLine, newline};
-ghost use Rattle.sheet.specs.Private.Said.{said};
+ghost use Rattle.std.specs.Prelude.{◌≡◌, ℕ, ◌≤◌, ◌↔◌, IsTrue, List, [], ◌∷◌, length, IfNone, MatchOption};
+ghost use Rattle.sheet.specs.Lines.{BeginsWithLine, newline};
+ghost use Rattle.sheet.specs.Private.Said.{said_line};
 ghost use Rattle.sheet.specs.Private.Words.{BeginsWithNumber, BeginsWithNumbers, BeginsWithName, Takes};
 
 use crate::line::Line;
@@ -38,11 +38,10 @@ impl<'a> Reader<'a> {
         self.at == self.sheet.len()
     }
 
-    /// The next line. Where none comes next, nothing is read.
+    /// The next line. Where no line comes next, nothing is read.
     pub fn line(&mut self) -> Option<Line<'a>>
-        ensures answer { MatchOption result
-            (((l : AnyLine) (rest : List ℕ) → BeginsWithLine self.old l rest → ⊥)
-            × (self.new ≡ self.old)) (λ l. BeginsWithLine self.old (said l) self.new) }
+        ensures answer { Takes said_line (BeginsWithLine self.old) result self.new }
+        ensures unchanged { IfNone result (self.new ≡ self.old) }
     {
         let mut ahead = Reader {
             sheet: self.sheet,
@@ -153,62 +152,72 @@ mod tests {
 
     #[test]
     fn names_of_every_length(rt: HostRuntime) {
-        assert_eq!(rt; first("N \n"), None);
         assert_eq!(rt; first("N  \n"), Some(Line::Name(b" ")));
         assert_eq!(rt; first("N 1~\n"), Some(Line::Name(b"1~")));
         assert_eq!(rt;
             first("N 123456789012345678901234\n"),
             Some(Line::Name(b"123456789012345678901234"))
         );
-        assert_eq!(rt; first("N 1234567890123456789012345\n"), None);
     }
 
     #[test]
-    fn bytes_that_no_name_has(rt: HostRuntime) {
-        assert_eq!(rt; first("N Clove\x1f\n"), None);
-        assert_eq!(rt; first("N Clove\x7f\n"), None);
-        assert_eq!(rt; first("N Clov\u{e9}\n"), None);
-        assert_eq!(rt; first("N Clove\r\n"), None);
+    fn names_not_in_form(rt: HostRuntime) {
+        for text in [
+            "N \n",
+            "N 1234567890123456789012345\n",
+            "N Clove\x1f\n",
+            "N Clove\x7f\n",
+            "N Clov\u{e9}\n",
+            "N Clove\r\n",
+        ] {
+            assert_eq!(rt; first(text), None);
+        }
     }
 
     #[test]
     fn numbers_not_in_form(rt: HostRuntime) {
-        assert_eq!(rt; first("H 0 010 20\n"), None);
-        assert_eq!(rt; first("H 00 10 20\n"), None);
-        assert_eq!(rt; first("H +0 10 20\n"), None);
-        assert_eq!(rt; first("H 0 10 65536\n"), None);
-        assert_eq!(rt; first("C 2 65\n"), None);
-        assert_eq!(rt; first("S 4294967296\n"), None);
-        assert_eq!(rt; first("S 0100\n"), None);
-        assert_eq!(rt; first("S 99999999999999999999999999\n"), None);
+        for text in [
+            "H 0 010 20\n",
+            "H 00 10 20\n",
+            "H +0 10 20\n",
+            "H 0 10 65536\n",
+            "C 2 65\n",
+            "S 4294967296\n",
+            "S 0100\n",
+            "S 99999999999999999999999999\n",
+        ] {
+            assert_eq!(rt; first(text), None);
+        }
     }
 
     #[test]
     fn words_not_in_form(rt: HostRuntime) {
-        assert_eq!(rt; first("H 0 10\n"), None);
-        assert_eq!(rt; first("H 0 10 20 30\n"), None);
-        assert_eq!(rt; first("H 0  10 20\n"), None);
-        assert_eq!(rt; first("H 0 10 20 \n"), None);
-        assert_eq!(rt; first("H 0\t10 20\n"), None);
-        assert_eq!(rt; first("H 0 10 20\r\n"), None);
-        assert_eq!(rt; first("T \n"), None);
-        assert_eq!(rt; first("S\n"), None);
+        for text in [
+            "H 0 10\n",
+            "H 0 10 20 30\n",
+            "H 0  10 20\n",
+            "H 0 10 20 \n",
+            "H 0\t10 20\n",
+            "H 0 10 20\r\n",
+            "T \n",
+            "S\n",
+        ] {
+            assert_eq!(rt; first(text), None);
+        }
     }
 
     #[test]
     fn letters_not_in_form(rt: HostRuntime) {
-        assert_eq!(rt; first(""), None);
-        assert_eq!(rt; first("\n"), None);
-        assert_eq!(rt; first(" T\n"), None);
-        assert_eq!(rt; first("t\n"), None);
-        assert_eq!(rt; first("X 1\n"), None);
+        for text in ["", "\n", " T\n", "t\n", "X 1\n"] {
+            assert_eq!(rt; first(text), None);
+        }
     }
 
     #[test]
     fn line_not_ended(rt: HostRuntime) {
-        assert_eq!(rt; first("T"), None);
-        assert_eq!(rt; first("S 100"), None);
-        assert_eq!(rt; first("N Clove"), None);
+        for text in ["T", "S 100", "N Clove"] {
+            assert_eq!(rt; first(text), None);
+        }
     }
 
     #[test]

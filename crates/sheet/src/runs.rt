@@ -1,8 +1,8 @@
-//! A sheet is run line by line, and what its commands answer is printed.
+//! The lines of a sheet are carried out one by one, and what its commands answer is printed.
 ghost use Rattle.std.specs.Prelude.{◌≡◌, ℕ, ◌≤◌, List, [], length, IfOk};
 ghost use Rattle.sheet.specs.Private.Desks.{Orderly, RoomFor};
 ghost use Rattle.sheet.specs.Private.Pages.{Adds};
-ghost use Rattle.sheet.specs.Runs.{new_desk, MayEnd, Prints, PrintOf, Printed};
+ghost use Rattle.sheet.specs.Sheets.{new_desk, MayEnd, Prints, PrintOf, Printed};
 ghost use Rattle.sheet.specs.Private.Steps.{Took};
 
 use crate::desk::Desk;
@@ -12,15 +12,20 @@ use crate::reader::Reader;
 use lots::Refusal;
 use rule::Rule;
 
-/// The most bytes that a sheet may have.
+/// The most bytes of a sheet. A longer one prints a refusal with 14 alone.
 pub const MAX_SHEET: usize = 16_384;
-/// The fewest bytes that a buffer for the print of a sheet may have.
+/// The fewest bytes of a buffer for a print. A shorter one is refused with 13; each print fits one
+/// of so many.
 pub const MIN_PRINT: usize = 32_768;
 // The line number of a refusal of the whole sheet.
 const WHOLE_SHEET: u32 = 0;
 
-/// Runs the lines of the sheet in order, and answers the length of its print. The rule is what
-/// tightens and searches its plan.
+/// How many bytes the print of the sheet has, which stands at the front of the buffer afterwards;
+/// the bytes past it keep what they held. The rule is what tightens and searches the plan of the
+/// sheet (docs/SHEET.md).
+///
+/// Refuses with 13 a buffer of fewer than [`MIN_PRINT`] bytes, and leaves it as it was. Every other
+/// refusal is the last line of a print: its number, and that of its line (docs/REFUSALS.md).
 pub fn run<R: Rule>(rule: &R, sheet: &[u8], print: &mut [u8]) -> Result<usize, Refusal>
     ensures exact { Printed (R.meaning rule.now) sheet.now print.old print.new result }
     ensures fits { IfOk result (λ n. n ≤ length print.old) }
@@ -45,7 +50,7 @@ fn run_sheet<R: Rule>(rule: &R, sheet: &[u8], page: &mut Page<'_>)
     run_lines(rule, sheet, page);
 }
 
-// Runs line after line, until the sheet ends or one is refused.
+// Carries out line after line, until the sheet ends or one is refused.
 fn run_lines<R: Rule>(rule: &R, sheet: &[u8], page: &mut Page<'_>)
     requires room { RoomFor new_desk page.old }
     ensures same_buffer { page.new.buffer.ghost_name ≡ page.old.buffer.ghost_name }
@@ -62,7 +67,7 @@ fn run_lines<R: Rule>(rule: &R, sheet: &[u8], page: &mut Page<'_>)
     }
 }
 
-// Runs the next line of a sheet that may not end before it.
+// Carries out the next line of a sheet that may not end before it.
 fn run_line<'a, R: Rule>(
     rule: &R,
     desk: &mut Desk<'a>,

@@ -16,12 +16,12 @@ const FIRST_PRINTABLE: u8 = 32;
 
 const LAST_PRINTABLE: u8 = 126;
 
-/// A part of the sheet, and its place there.
+/// A part of the sheet, which it borrows, and its place there.
 #[derive(Clone, Copy)]
 pub(crate) enum Token<'a> {
     Name(&'a [u8], usize),
     Number(&'a [u8], usize),
-    Command(char, usize),
+    Command(&'a u8, usize),
 }
 
 impl<'a> Token<'a> {
@@ -29,9 +29,7 @@ impl<'a> Token<'a> {
     pub fn command(sheet: &'a [u8], at: usize) -> Option<Token<'a>>
         ensures answer { MatchOption result (length sheet.now ≤ at) (CommandAt sheet.now at) }
     {
-        sheet
-            .get(at)
-            .map(|letter| Token::Command(*letter as char, at))
+        sheet.get(at).map(|letter| Token::Command(letter, at))
     }
 
     /// The number word after the space at a place: as many digits as stand there.
@@ -68,7 +66,7 @@ impl<'a> Token<'a> {
         ensures answer { Reads (Letter self.now) result }
     {
         match self {
-            Token::Command(letter, _) => Some(*letter),
+            Token::Command(letter, _) => Some(**letter as char),
             _ => None,
         }
     }

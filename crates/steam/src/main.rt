@@ -1,5 +1,5 @@
-//! Reads a sheet from standard input, runs it with the house pile, and writes its print to standard
-//! output.
+//! Reads a sheet from standard input, carries it out with the house pile, and writes its print to
+//! standard output (docs/SHEET.md). The status is 0 also where the print ends with a refusal.
 #![tactic(auto)]
 
 use anyhow::anyhow;

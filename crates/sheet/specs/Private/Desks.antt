@@ -4,7 +4,7 @@ use Rattle.std.specs.List.{AllByRecursion}
 use Rattle.lots.specs.Limits.{max_lots}
 use Rattle.lots.specs.Tables.{Lawful}
 use Rattle.sheet.specs.Lines.{max_name}
-use Rattle.sheet.specs.Runs.{Desk, head, max_commands}
+use Rattle.sheet.specs.Sheets.{Desk, head, max_commands}
 use Rattle.sheet.specs.declared.page.Page.{Page}
 
 -- how many names and lots the desk has, where the line is due
@@ -25,20 +25,23 @@ max_lines = head max_lots + max_commands
 abbrev pub HasLine : Desk → Type 0
 HasLine D = D.line ≤ max_lines
 
--- the most bytes of the first line of what tighten prints, and of a line for a window
+-- at most so many bytes: the first line of what tighten prints, whose number is below a million,
+-- and a line for a window
 abbrev pub first_line : ℕ
 first_line = 15
 
 abbrev pub window_line : ℕ
 window_line = 39
 
--- the most bytes of what is printed for a command: what tighten prints for 64 lots; the first line of what solve prints may be longer, but 64 lines for starts are shorter than 64 for windows by more than that
+-- so many bytes at most are printed for a command: what tighten prints for 64 lots. The first line
+-- of what solve prints may be longer, but 64 lines for starts are shorter than 64 for windows by
+-- more than that.
 abbrev pub most_of_command : ℕ
 most_of_command = first_line + window_line * max_lots
 
--- the most bytes of a refusal
+-- the most bytes of a refusal: its number has two digits, and that of its line three
 abbrev pub most_of_refusal : ℕ
-most_of_refusal = 10
+most_of_refusal = 9
 
 -- the commands that a sheet may still have, when its line is due
 abbrev pub commands_left : Desk → ℕ

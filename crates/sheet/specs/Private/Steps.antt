@@ -5,12 +5,12 @@ use Rattle.rule.specs.Meanings.{Meaning}
 use Rattle.lots.specs.Tables.{Table}
 use Rattle.sheet.specs.Lines.{Line, Bounded}
 use Rattle.sheet.specs.PrintLines.{refusal_print}
-use Rattle.sheet.specs.Runs.{Desk, Due, BeginsWithDueLine, Full, Runs, Refuses, after, Prints}
+use Rattle.sheet.specs.Sheets.{Desk, Due, BeginsWithDueLine, Full, CarriesOut, Refuses, desk_after, Prints}
 use Rattle.sheet.specs.Private.Desks.{Orderly, RoomFor}
 use Rattle.sheet.specs.Private.Pages.{Adds}
 use Rattle.sheet.specs.declared.page.Page.{Page}
 
--- the line can be run at the desk D, and the page has room for what it prints
+-- the line can be carried out at the desk D, and the page has room for what it prints
 pub record Ready (D : Desk) (l : Line) (p : Page) : Type 0 where
   pub due : Due D l
   pub bounded : Bounded l
@@ -18,12 +18,17 @@ pub record Ready (D : Desk) (l : Line) (p : Page) : Type 0 where
   pub orderly : Orderly D
   pub room : RoomFor D p
 
--- the line is run at the desk D, which becomes E, and what it prints is added to the page p, which becomes q; or it is refused, and desk and page stay
-abbrev pub Ran : Meaning → Desk → Line → Desk → Page → Page → Result (Unit {0}) Refusal → Type 0
-Ran m D l E p q (Ok _) = (Q : Table) × (out : List ℕ) × Runs m D l Q out × (E ≡ after D l Q) × Adds p out q
-Ran m D l E p q (Err e) = Refuses m D l e × (E ≡ D) × (q ≡ p)
+-- the line is carried out at the desk D, which becomes E, and what it prints is added to the page
+-- p, which becomes q; or it is refused, and desk and page stay
+abbrev pub CarriedOut : Meaning → Desk → Line → Desk → Page → Page → Result (Unit {0}) Refusal → Type 0
+CarriedOut m D l E p q (Ok _) =
+    (Q : Table) × (out : List ℕ) × CarriesOut m D l Q out × (E ≡ desk_after D l Q) × Adds p out q
+CarriedOut m D l E p q (Err e) = Refuses m D l e × (E ≡ D) × (q ≡ p)
 
--- so of the first line of the bytes bs, after which `rest` comes; or the print ends with a refusal, which is still to be printed
-abbrev pub Took : Meaning → Desk → List ℕ → Desk → List ℕ → Page → Page → Result (Unit {0}) Refusal → Type 0
-Took m D bs E rest p q (Ok x) = (l : Line) × BeginsWithDueLine D bs l rest × (Full D → ⊥) × Ran m D l E p q (Ok x)
+-- so of the first line of the bytes bs, after which `rest` comes; or the print ends with a refusal,
+-- which is still to be printed
+abbrev pub Took : Meaning → Desk → List ℕ → Desk → List ℕ → Page → Page → Result (Unit {0}) Refusal
+    → Type 0
+Took m D bs E rest p q (Ok x) =
+    (l : Line) × BeginsWithDueLine D bs l rest × (Full D → ⊥) × CarriedOut m D l E p q (Ok x)
 Took m D bs E rest p q (Err e) = Prints m D bs (refusal_print e D.line) × (E ≡ D) × (q ≡ p)

@@ -1,7 +1,7 @@
 use Rattle.std.proofs.Common.{◌≡◌, ℕ, List, length}
 use Rattle.sheet.specs.Private.Desks.{Orderly, RoomFor}
 use Rattle.sheet.specs.Private.Pages.{Adds}
-use Rattle.sheet.specs.Runs.{new_desk, Prints}
+use Rattle.sheet.specs.Sheets.{new_desk, Prints}
 use Rattle.sheet.specs.declared.page.Page.{Page}
 use Rattle.sheet.proofs.Lengths.{InTime}
 use Rattle.sheet.proofs.runs.run_lines.Given as goal

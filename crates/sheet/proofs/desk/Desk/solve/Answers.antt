@@ -1,7 +1,7 @@
 use Rattle.std.proofs.Common.{◌∙◌, refl, ap, replicate}
 use Rattle.sheet.specs.Private.Pages.{bytes_of}
 use Rattle.tree.specs.Answer.{max_trail}
-use Rattle.sheet.specs.Runs.{Desk}
+use Rattle.sheet.specs.Sheets.{Desk}
 use Rattle.sheet.proofs.Steps.{solve_room, solve_refused}
 use Rattle.sheet.proofs.desk.Desk.solve.Goals as goal
 

@@ -1,6 +1,6 @@
 use Rattle.std.proofs.Common.{◌∙◌, ap}
 use Rattle.sheet.specs.Private.Pages.{bytes_of}
-use Rattle.sheet.specs.Runs.{Desk}
+use Rattle.sheet.specs.Sheets.{Desk}
 use Rattle.sheet.proofs.Steps.{tighten_room}
 use Rattle.sheet.proofs.desk.Desk.tighten.Goals as goal
 

@@ -1,4 +1,4 @@
--- The run of a sheet: its lines in order, and what they print.
+-- What a sheet prints: its lines in order, each of them carried out or refused.
 use Rattle.std.specs.Prelude.{◌≡◌, ℕ, suc, ◌+◌, ◌-◌, ◌*◌, ◌<◌, ◌≤◌, ◌⊎◌, List, [], ◌∷◌, ◌++◌, length, drop, Ok, Err, Result}
 use Rattle.lots.specs.Checks.{Check, Checked}
 use Rattle.lots.specs.Limits.{max_lots}
@@ -30,7 +30,8 @@ min_print = 32768
 abbrev pub whole_sheet : ℕ
 whole_sheet = 0
 
--- what a run knows when the line with the number `line` is due: how many lots the first line has said, the names so far, and the plan
+-- what is known when the line with the number `line` is due: how many lots the first line has said,
+-- the names so far, and the plan
 pub record Desk : Type 0 where
   pub line : ℕ
   pub lots : ℕ
@@ -59,23 +60,28 @@ BeginsWithDueLine D bs l rest = BeginsWithLine bs l rest × Due D l
 abbrev pub MayEnd : Desk → Type 0
 MayEnd D = head D.lots < D.line
 
--- all commands that a sheet may have were run
+-- all commands that a sheet may have were carried out
 abbrev pub Full : Desk → Type 0
 Full D = head D.lots + max_commands < D.line
 
--- a search of the plan under the budget B, with a trail and a place for starts that serve every table; us is what the place holds after
+-- a search of the plan under the budget B, with a trail and a place for starts that serve every
+-- table; us is what the place holds after
 abbrev pub Searched : Meaning → Table → ℕ → List ℕ → Result Search Refusal → Type 0
 Searched m P B us r =
-    (cs ds : List Lot) × (ss : List ℕ) × (length cs ≡ max_trail) × (length ss ≡ max_lots) × Solved m P.capacity P.lots B cs ds ss us r
+    (cs ds : List Lot) × (ss : List ℕ) × (length cs ≡ max_trail) × (length ss ≡ max_lots)
+    × Solved m P.capacity P.lots B cs ds ss us r
 
--- the line is run at the desk D: it leaves the plan Q and prints out
-abbrev pub Runs : Meaning → Desk → Line → Table → List ℕ → Type 0
-Runs m D (machine C n) Q out = Opened C D.plan Q (Ok tt) × (out ≡ [])
-Runs m D (name w) Q out = (Q ≡ D.plan) × (out ≡ [])
-Runs m D (lot i x) Q out = (k : ℕ) × Admitted x D.plan Q (Ok k) × (out ≡ [])
-Runs m D (narrow i from to) Q out = Narrowed i from to D.plan Q (Ok tt) × (out ≡ narrow_print)
-Runs m D tighten Q out = (v : Verdict) × (k : ℕ) × Tightened m D.plan Q v k × (out ≡ tighten_print v k D.names Q.lots)
-Runs m D (solve B) Q out = (Q ≡ D.plan) × (us : List ℕ) × (a : Search) × Searched m D.plan B us (Ok a) × (out ≡ solve_print a D.names us)
+-- the line is carried out at the desk D: it leaves the plan Q and prints out
+abbrev pub CarriesOut : Meaning → Desk → Line → Table → List ℕ → Type 0
+CarriesOut m D (machine C n) Q out = Opened C D.plan Q (Ok tt) × (out ≡ [])
+CarriesOut m D (name w) Q out = (Q ≡ D.plan) × (out ≡ [])
+CarriesOut m D (lot i x) Q out = (k : ℕ) × Admitted x D.plan Q (Ok k) × (out ≡ [])
+CarriesOut m D (narrow i from to) Q out = Narrowed i from to D.plan Q (Ok tt) × (out ≡ narrow_print)
+CarriesOut m D tighten Q out =
+    (v : Verdict) × (k : ℕ) × Tightened m D.plan Q v k × (out ≡ tighten_print v k D.names Q.lots)
+CarriesOut m D (solve B) Q out =
+    (Q ≡ D.plan) × (us : List ℕ) × (a : Search) × Searched m D.plan B us (Ok a)
+    × (out ≡ solve_print a D.names us)
 
 -- its call is refused with e
 abbrev pub Refuses : Meaning → Desk → Line → Refusal → Type 0
@@ -87,18 +93,25 @@ Refuses m D tighten e = ⊥
 Refuses m D (solve B) e = (us : List ℕ) × Searched m D.plan B us (Err e)
 
 -- what is known after the line, which has left the plan Q
-abbrev pub after : Desk → Line → Table → Desk
-after D (machine C n) Q = record D { line = suc D.line; lots = n; names = []; plan = Q }
-after D (name w) Q = record D { line = suc D.line; names = D.names ++ w ∷ []; plan = Q }
-after D l Q = record D { line = suc D.line; plan = Q }
+abbrev pub desk_after : Desk → Line → Table → Desk
+desk_after D (machine C n) Q = record D { line = suc D.line; lots = n; names = []; plan = Q }
+desk_after D (name w) Q = record D { line = suc D.line; names = D.names ++ w ∷ []; plan = Q }
+desk_after D l Q = record D { line = suc D.line; plan = Q }
 
 -- the lines bs, from the one that is due at the desk D on, print out
 pub data Prints (m : Meaning) : Desk → List ℕ → List ℕ → Type 0 where
   ends : {D : Desk} → MayEnd D → Prints m D [] []
-  runs : {D : Desk} {bs rest : List ℕ} (l : Line) (Q : Table) (out more : List ℕ) → BeginsWithDueLine D bs l rest → (Full D → ⊥) → Runs m D l Q out → Prints m (after D l Q) rest more → Prints m D bs (out ++ more)
-  refused : {D : Desk} {bs : List ℕ} (l : Line) (rest : List ℕ) (e : Refusal) → BeginsWithDueLine D bs l rest → (Full D → ⊥) → Refuses m D l e → Prints m D bs (refusal_print e D.line)
-  ninth : {D : Desk} {bs : List ℕ} (l : Line) (rest : List ℕ) → BeginsWithDueLine D bs l rest → Full D → Prints m D bs (refusal_print refusal.Commands D.line)
-  formless : {D : Desk} {bs : List ℕ} → ((bs ≡ []) → MayEnd D → ⊥) → ((l : Line) (rest : List ℕ) → BeginsWithDueLine D bs l rest → ⊥) → Prints m D bs (refusal_print refusal.Line D.line)
+  carried_out : {D : Desk} {bs rest : List ℕ} (l : Line) (Q : Table) (out more : List ℕ)
+      → BeginsWithDueLine D bs l rest → (Full D → ⊥) → CarriesOut m D l Q out
+      → Prints m (desk_after D l Q) rest more → Prints m D bs (out ++ more)
+  refused : {D : Desk} {bs : List ℕ} (l : Line) (rest : List ℕ) (e : Refusal)
+      → BeginsWithDueLine D bs l rest → (Full D → ⊥) → Refuses m D l e
+      → Prints m D bs (refusal_print e D.line)
+  ninth : {D : Desk} {bs : List ℕ} (l : Line) (rest : List ℕ)
+      → BeginsWithDueLine D bs l rest → Full D → Prints m D bs (refusal_print refusal.Commands D.line)
+  formless : {D : Desk} {bs : List ℕ}
+      → ((bs ≡ []) → MayEnd D → ⊥) → ((l : Line) (rest : List ℕ) → BeginsWithDueLine D bs l rest → ⊥)
+      → Prints m D bs (refusal_print refusal.Line D.line)
 
 -- the print of a sheet
 abbrev pub PrintOf : Meaning → List ℕ → List ℕ → Type 0
@@ -123,4 +136,5 @@ print_checks bytes = record { refusal = refusal.PrintBuffer; applies = bytes < m
 -- what the sheet call answers, where the buffer holds `before` before it and `holds` after it
 abbrev pub Printed : Meaning → List ℕ → List ℕ → List ℕ → Result ℕ Refusal → Type 0
 Printed m sheet before holds r =
-    Checked (print_checks (length before)) (holds ≡ before) (λ n. (out : List ℕ) × PrintOf m sheet out × (n ≡ length out) × (holds ≡ out ++ drop n before)) r
+    Checked (print_checks (length before)) (holds ≡ before)
+    (λ n. (out : List ℕ) × PrintOf m sheet out × (n ≡ length out) × (holds ≡ out ++ drop n before)) r
