@@ -2,6 +2,7 @@
 use Rattle.std.proofs.Common.{◌≡◌, ℕ, ◌+◌, ◌-◌, ◌*◌, ◌≤◌, ◌<◌, List, [], ◌++◌, drop, get_or, codes, Some, None, Option, Ok, Err, Result, MatchOption, MatchResult, ◌≢◌, sym, ap, ◌∙◌, subst, arith}
 use Rattle.std.proofs.lemmas.List.{append-nil, append_assoc, append_cancel_left}
 use Rattle.std.specs.Option.{ok_or}
+use Rattle.std.specs.Str.Pattern.{FindsTextPrefix, StripsPrefix}
 use Rattle.std.specs.Result.{IsErrAnd}
 use Rattle.console.specs.Private.Faults.{Unread}
 use Rattle.console.specs.Piles.{pile_word, levels, max_levels, Names}
@@ -9,6 +10,10 @@ use Rattle.console.specs.Private.Front.{Lacks, BeginsWithPile, LacksPile}
 use Rattle.console.specs.declared.answers.Fault.{Fault}
 use Rattle.console.specs.declared.answers.Fault.TheVariants as fault
 use Rattle.console.specs.declared.piles.Pile.{Pile, Idle, Overload, TimeTable, NotFirst, House, Turned', Both'}
+
+-- a text of which `strip_prefix` cuts off the word w
+pub stripped : (w text rest : List ℕ) → StripsPrefix (FindsTextPrefix w) text rest → text ≡ w ++ rest
+stripped w text rest (n, found, left, count) = found.1 ∙ ap (λ l. w ++ l) (sym left)
 
 pub some_level : (p : Pile) → 0 < levels p
 some_level (Turned' a p) = omega arith
