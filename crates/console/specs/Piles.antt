@@ -19,7 +19,8 @@ pile_word TimeTable = codes "timetable"
 pile_word NotFirst = codes "notfirst"
 pile_word House = codes "house"
 pile_word (Turned' a p) = codes "turned(" ++ (pile_word p ++ codes ")")
-pile_word (Both' a p b q) = codes "both(" ++ (pile_word p ++ (codes "," ++ (pile_word q ++ codes ")")))
+pile_word (Both' a p b q) =
+    codes "both(" ++ (pile_word p ++ (codes "," ++ (pile_word q ++ codes ")")))
 
 abbrev pub pile_meaning : Pile → Meaning
 pile_meaning Idle = idle

@@ -11,7 +11,8 @@ use Rattle.console.specs.declared.answers.Answer.{Answer}
 use Rattle.console.specs.declared.answers.Answer.TheVariants.{Overflow, Applied, Done, Admitted, Tightened, Windows, Solved, Refused, Unknown}
 
 abbrev pub shown_cell : Lot → List ℕ
-shown_cell x = decimal x.est ++ (codes "," ++ (decimal x.lct ++ (codes "," ++ (decimal x.p ++ (codes "," ++ decimal x.c)))))
+shown_cell x =
+    decimal x.est ++ (codes "," ++ (decimal x.lct ++ (codes "," ++ (decimal x.p ++ (codes "," ++ decimal x.c)))))
 
 -- the cells, each after a space
 abbrev pub shown_cells : List Lot → List ℕ
@@ -19,7 +20,8 @@ shown_cells T = flat_map (λ x. codes " " ++ shown_cell x) T
 
 -- the answer of a search, and the starts of the best schedule
 abbrev pub shown_search : Search → List ℕ → List ℕ
-shown_search (Best end nodes) starts = codes "best " ++ (decimal end ++ (codes " " ++ (decimal nodes ++ numbers starts)))
+shown_search (Best end nodes) starts =
+    codes "best " ++ (decimal end ++ (codes " " ++ (decimal nodes ++ numbers starts)))
 shown_search (None nodes) starts = codes "none " ++ decimal nodes
 shown_search (Spent nodes) starts = codes "spent " ++ decimal nodes
 

@@ -11,17 +11,26 @@ use std::alloc::{AllocError, AllocFailed};
 use std::fmt;
 use tree::Search;
 
-/// The answer to a line. It is shown as the line that the program writes.
+/// The answer to a line. It is shown as the line that the program writes (docs/CONSOLE.md).
 #[derive(Drop)]
 pub enum Answer {
+    /// The overflow of a table, in tray-minutes, and the number of points of its profile.
     Overflow { left: u32, points: usize },
+    /// A rule's verdict on a table, and the table afterwards.
     Applied { verdict: Verdict, lots: Vec<Lot> },
+    /// The plan is opened, or a lot of it is narrowed.
     Done,
+    /// The number of the lot that is admitted.
     Admitted { number: usize },
+    /// The verdict on the plan, and how often the rule was applied.
     Tightened { verdict: Verdict, applications: u32 },
+    /// The plan's capacity, in trays, and its lots.
     Windows { capacity: u16, lots: Vec<Lot> },
+    /// What a search found, and the starts of the best schedule, in minutes.
     Solved { search: Search, starts: Vec<u16> },
+    /// The call refuses, by its number (docs/REFUSALS.md).
     Refused(Refusal),
+    /// The line writes no call.
     Unknown,
 }
 
@@ -38,8 +47,8 @@ fn write_cells<W: fmt::Write>(lots: &[Lot], f: &mut fmt::Formatter<W>) -> fmt::R
 
 // Writes each number after a space.
 fn write_numbers<W: fmt::Write>(numbers: &[u16], f: &mut fmt::Formatter<W>) -> fmt::Result
-    ensures answer { WritesOnOk W.Write.write_str_gives f.old result (written_numbers numbers.now)
-        f.new }
+    ensures answer { WritesOnOk W.Write.write_str_gives f.old result
+        (written_numbers numbers.now) f.new }
 {
     for number in numbers {
         write!(f, " {number}")?;
@@ -93,17 +102,17 @@ impl fmt::Display for Answer {
     }
 }
 
-/// Why a call comes to no answer of its own: the line does not write it, it refuses, or there is no
-/// memory for it. Apart from `Answer`, which has no case for want of memory, so that `?` can carry
-/// it.
+/// Why a call comes to no answer of its own.
 #[derive(Clone, Copy)]
 pub enum Fault {
+    /// The line does not write the call.
     Unknown,
+    /// The call refuses.
     Refused(Refusal),
+    /// There is no memory for the call, and so the line gets no answer.
     Memory,
 }
 
-// By hand, as the next two: the clauses of the calls read what they give.
 impl From<Refusal> for Fault {
     ghost from_gives = { λ refusal r. r ≡ refused_by refusal };
 

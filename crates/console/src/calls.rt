@@ -2,8 +2,8 @@
 ghost use Rattle.std.specs.Prelude.{◌≡◌, IfOk, IfErr, MatchResult};
 ghost use Rattle.lots.specs.Texts.{space};
 ghost use Rattle.lots.specs.Tables.{Table};
-ghost use Rattle.console.specs.Lines.{overflow_call, rule_call, open_call, admit_call, narrow_call, tighten_call, solve_call, windows_call, SolveForm, Known, Asks, Answers, Made, Answered};
-ghost use Rattle.console.specs.Private.Faults.{Unread, Comes};
+ghost use Rattle.console.specs.Lines.{overflow_call, rule_call, open_call, admit_call, narrow_call, tighten_call, solve_call, windows_call, SolveForm, Asks, Answered};
+ghost use Rattle.console.specs.Private.Faults.{Unread, Makes, MakesNamed};
 ghost use Rattle.console.specs.Syntax.{pieces};
 
 use crate::answers::{Answer, Fault};
@@ -16,7 +16,7 @@ use rule::Rule;
 use std::alloc::{AllocError, Global};
 use std::str::from_utf8;
 
-/// The answer to the line, or nothing where the line is empty or a comment.
+/// The answer to the line (docs/CONSOLE.md), or nothing where the line is empty or a comment.
 pub fn answer(heap: Global, plan: &mut Plan, line: &[u8]) -> Result<Option<Answer>, AllocError>
     ensures answer { IfOk result (Answered line.now plan.old plan.new) }
     ensures kept { IfErr result (λ _. plan.new ≡ plan.old) }
@@ -32,11 +32,9 @@ pub fn answer(heap: Global, plan: &mut Plan, line: &[u8]) -> Result<Option<Answe
     }
 }
 
-// Makes the call that the first word names. Arms, since the calls differ in what they read and
-// answer.
+// Makes the call that the first word names.
 fn call(heap: Global, plan: &mut Plan, line: &[u8]) -> Result<Answer, Fault>
-    ensures answer { Comes (Made (pieces space line.now)) (Known (pieces space line.now) → ⊥)
-        plan.old plan.new result }
+    ensures answer { MakesNamed (pieces space line.now) plan.old plan.new result }
 {
     let text = from_utf8(line).map_err(|_| Fault::Unknown)?;
     let mut words = Parts::cut(text, ' ');
@@ -55,9 +53,7 @@ fn call(heap: Global, plan: &mut Plan, line: &[u8]) -> Result<Answer, Fault>
 
 // `overflow C CELL..`
 fn overflow(heap: Global, words: Parts<'_>) -> Result<Answer, Fault>
-    ensures answer { (P : Table)
-        → Comes (Answers overflow_call words.entry) (Asks overflow_call words.entry → ⊥) P P
-        result }
+    ensures answer { (P : Table) → Makes overflow_call words.entry P P result }
 {
     let (capacity, lots) = table(heap, words)?;
     let (left, points) = elastic::overflow(capacity, lots.as_slice())?;
@@ -66,8 +62,7 @@ fn overflow(heap: Global, words: Parts<'_>) -> Result<Answer, Fault>
 
 // `rule PILE C CELL..`
 fn rule(heap: Global, mut words: Parts<'_>) -> Result<Answer, Fault>
-    ensures answer { (P : Table)
-        → Comes (Answers rule_call words.entry) (Asks rule_call words.entry → ⊥) P P result }
+    ensures answer { (P : Table) → Makes rule_call words.entry P P result }
 {
     let pile = Pile::read(heap, words.next().ok_or(Fault::Unknown)?)?;
     let (capacity, mut lots) = table(heap, words)?;
@@ -77,8 +72,7 @@ fn rule(heap: Global, mut words: Parts<'_>) -> Result<Answer, Fault>
 
 // `open C`
 fn open(plan: &mut Plan, words: Parts<'_>) -> Result<Answer, Fault>
-    ensures answer { Comes (Answers open_call words.entry) (Asks open_call words.entry → ⊥) plan.old
-        plan.new result }
+    ensures answer { Makes open_call words.entry plan.old plan.new result }
 {
     let [capacity] = numbers::<1>(words).ok_or(Fault::Unknown)?;
     plan.open(capacity)?;
@@ -87,8 +81,7 @@ fn open(plan: &mut Plan, words: Parts<'_>) -> Result<Answer, Fault>
 
 // `admit EST LCT P C`
 fn admit(plan: &mut Plan, words: Parts<'_>) -> Result<Answer, Fault>
-    ensures answer { Comes (Answers admit_call words.entry) (Asks admit_call words.entry → ⊥)
-        plan.old plan.new result }
+    ensures answer { Makes admit_call words.entry plan.old plan.new result }
 {
     let lot = lot(words).ok_or(Fault::Unknown)?;
     let number = plan.admit(lot)?;
@@ -97,8 +90,7 @@ fn admit(plan: &mut Plan, words: Parts<'_>) -> Result<Answer, Fault>
 
 // `narrow LOT FROM TO`
 fn narrow(plan: &mut Plan, words: Parts<'_>) -> Result<Answer, Fault>
-    ensures answer { Comes (Answers narrow_call words.entry) (Asks narrow_call words.entry → ⊥)
-        plan.old plan.new result }
+    ensures answer { Makes narrow_call words.entry plan.old plan.new result }
 {
     let [lot, from, to] = numbers::<3>(words).ok_or(Fault::Unknown)?;
     plan.narrow(lot as usize, from, to)?;
@@ -107,8 +99,7 @@ fn narrow(plan: &mut Plan, words: Parts<'_>) -> Result<Answer, Fault>
 
 // `tighten PILE`
 fn tighten(heap: Global, plan: &mut Plan, mut words: Parts<'_>) -> Result<Answer, Fault>
-    ensures answer { Comes (Answers tighten_call words.entry) (Asks tighten_call words.entry → ⊥)
-        plan.old plan.new result }
+    ensures answer { Makes tighten_call words.entry plan.old plan.new result }
 {
     let pile = Pile::read(heap, words.next().ok_or(Fault::Unknown)?)?;
     if words.next().is_some() {
@@ -149,8 +140,7 @@ fn search_words(heap: Global, mut words: Parts<'_>) -> Result<Asked, Fault>
 
 // `solve PILE BUDGET TRAIL STARTS`
 fn solve(heap: Global, plan: &Plan, words: Parts<'_>) -> Result<Answer, Fault>
-    ensures answer { Comes (Answers solve_call words.entry) (Asks solve_call words.entry → ⊥)
-        plan.now plan.now result }
+    ensures answer { Makes solve_call words.entry plan.now plan.now result }
 {
     let Asked {
         pile,
@@ -167,8 +157,7 @@ fn solve(heap: Global, plan: &Plan, words: Parts<'_>) -> Result<Answer, Fault>
 
 // `windows`
 fn windows(heap: Global, plan: &Plan, mut words: Parts<'_>) -> Result<Answer, Fault>
-    ensures answer { Comes (Answers windows_call words.entry) (Asks windows_call words.entry → ⊥)
-        plan.now plan.now result }
+    ensures answer { Makes windows_call words.entry plan.now plan.now result }
 {
     if words.next().is_some() {
         return Err(Fault::Unknown);

@@ -1,7 +1,7 @@
 //! The piles that a word can name.
-ghost use Rattle.std.specs.Prelude.{◌≡◌, ℕ, List, ◌++◌, MatchOption, MatchResult};
+ghost use Rattle.std.specs.Prelude.{◌≡◌, ◌++◌, MatchOption, MatchResult};
 ghost use Rattle.console.specs.Piles.{pile_meaning, Names};
-ghost use Rattle.console.specs.Private.Front.{Lacks, BeginsWithPile};
+ghost use Rattle.console.specs.Private.Front.{Lacks, BeginsWithPile, LacksPile};
 ghost use Rattle.console.specs.Private.Faults.{Unread};
 ghost use Rattle.console.specs.Laws.PileSound.{pile_sound};
 
@@ -14,21 +14,26 @@ use std::alloc::Global;
 // The most levels of a pile that is read: reading and applying it take room on the stack for each.
 const MAX_LEVELS: u16 = 500;
 
+/// A pile that a word can name, and a rule itself (docs/RULES.md).
 #[derive(Drop)]
 pub enum Pile {
     Idle,
     Overload,
     TimeTable,
     NotFirst,
+    /// The pile that the house uses.
     House,
+    /// The pile, turned.
     Turned(Box<Pile>),
+    /// The first pile, and then the second.
     Both(Box<Pile>, Box<Pile>),
 }
 
 impl Pile {
-    /// The pile that the word names. No `FromStr`, since a pile within another needs memory.
+    /// The pile that the word names (docs/CONSOLE.md), or why it is not read, which is no refusal.
     pub fn read(heap: Global, word: &str) -> Result<Pile, Fault>
-        ensures answer { MatchResult result (Names word.now)
+        ensures answer { MatchResult result
+            (Names word.now)
             (λ f. Unread f ((p : Pile) → Names word.now p → ⊥)) }
     {
         let (pile, rest) = front(heap, MAX_LEVELS, word)?;
@@ -41,8 +46,9 @@ impl Pile {
 
 // The pile whose word the text begins with, and the rest of the text.
 fn front<'a>(heap: Global, levels: u16, text: &'a str) -> Result<(Pile, &'a str), Fault>
-    ensures answer { MatchResult result (λ r. BeginsWithPile text.now levels r.0 r.1.now)
-        (λ f. Unread f ((p : Pile) (x : List ℕ) → BeginsWithPile text.now levels p x → ⊥)) }
+    ensures answer { MatchResult result
+        (λ r. BeginsWithPile text.now levels r.0 r.1.now)
+        (λ f. Unread f (LacksPile text.now levels)) }
 {
     if levels == 0 {
         return Err(Fault::Unknown);
@@ -65,16 +71,17 @@ fn front<'a>(heap: Global, levels: u16, text: &'a str) -> Result<(Pile, &'a str)
 
 // The rest of a text that begins with the mark.
 fn past<'a>(mark: &str, text: &'a str) -> Result<&'a str, Fault>
-    ensures answer { MatchResult result (λ rest. text.now ≡ mark.now ++ rest.now)
+    ensures answer { MatchResult result
+        (λ rest. text.now ≡ mark.now ++ rest.now)
         (λ f. Unread f (Lacks text.now mark.now)) }
 {
     text.strip_prefix(mark).ok_or(Fault::Unknown)
 }
 
-// The same of a pile that stands alone. No name begins another, so the order does not matter.
+// The same of a pile that stands alone. No name begins another.
 fn plain<'a>(text: &'a str) -> Option<(Pile, &'a str)>
     ensures answer { MatchOption result
-        ((p : Pile) (x : List ℕ) → BeginsWithPile text.now 1 p x → ⊥)
+        (LacksPile text.now 1)
         (λ r. BeginsWithPile text.now 1 r.0 r.1.now) }
 {
     if let Some(rest) = text.strip_prefix("idle") {

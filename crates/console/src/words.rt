@@ -11,10 +11,8 @@ use crate::parts::Parts;
 use lots::Lot;
 use std::alloc::Global;
 
-// No `FromStr` here: that of `u16` takes a plus sign, `Lot` is of another crate, and a type around
-// each would be taken off at once.
-
-/// The number of 32 bits that the word writes in decimal digits alone, where it fits.
+/// The number of 32 bits that the word writes in decimal digits alone, where it fits
+/// (docs/CONSOLE.md).
 pub fn budget(word: &str) -> Option<u32>
     ensures answer { Reads (Budget word.now) result }
 {
@@ -46,7 +44,7 @@ pub fn numbers<const N: usize>(mut parts: Parts<'_>) -> Option<[u16; N]>
     }
 }
 
-/// The lot whose four numbers the parts write.
+/// The lot whose four numbers the parts write: est, lct, p and c.
 pub fn lot(parts: Parts<'_>) -> Option<Lot>
     ensures answer { Reads (λ x. AllZip Number parts.entry (lot_numbers x)) result }
 {
@@ -63,11 +61,11 @@ fn cell(word: &str) -> Option<Lot>
 
 // The lots of the cells that the words left write.
 fn cells(heap: Global, words: Parts<'_>) -> Result<Vec<Lot>, Fault>
-    ensures answer { MatchResult result (λ lots. AllZip Cell words.entry lots.items)
+    ensures answer { MatchResult result
+        (λ lots. AllZip Cell words.entry lots.items)
         (λ f. Unread f ((T : List Lot) → AllZip Cell words.entry T → ⊥)) }
 {
     let mut lots = Vec::new(heap);
-    // A loop: a chain that collects does not promise to fail where a cell is wrong.
     for word in words {
         let lot = cell(word).ok_or(Fault::Unknown)?;
         lots.push(lot)?;
@@ -75,10 +73,11 @@ fn cells(heap: Global, words: Parts<'_>) -> Result<Vec<Lot>, Fault>
     Ok(lots)
 }
 
-/// The capacity and the lots of the table that the words left write, as `C CELL..`: a pair, which
-/// callers take apart at once.
+/// The capacity, in trays, and the lots of the table that the words left write, as `C CELL..`, or why
+/// they are not read, which is no refusal.
 pub fn table(heap: Global, mut words: Parts<'_>) -> Result<(u16, Vec<Lot>), Fault>
-    ensures answer { MatchResult result (λ t. TableForm words.entry t.0 t.1.items)
+    ensures answer { MatchResult result
+        (λ t. TableForm words.entry t.0 t.1.items)
         (λ f. Unread f ((C : ℕ) (T : List Lot) → TableForm words.entry C T → ⊥)) }
 {
     let capacity = words.next().and_then(number).ok_or(Fault::Unknown)?;

@@ -10,3 +10,7 @@ Lacks text w = (x : List ℕ) → text ≢ w ++ x
 -- the text begins with the word of a pile of at most so many levels, and goes on with the rest
 abbrev pub BeginsWithPile : List ℕ → ℕ → Pile → List ℕ → Type 0
 BeginsWithPile text most p rest = (text ≡ pile_word p ++ rest) × (levels p ≤ most)
+
+-- the text begins with the word of no pile of at most so many levels
+abbrev pub LacksPile : List ℕ → ℕ → Type 0
+LacksPile text most = (p : Pile) (x : List ℕ) → BeginsWithPile text most p x → ⊥

@@ -19,7 +19,7 @@ returns-in_err-verdict c = record {
   answer =
       let fault = err_from_is_err_and c.from_residual-in_err-verdict.result c.from_residual-in_err-verdict.ensures.1 in
       let asked : RuleForm c.args.words c.in_ok-pile.pile c.in_ok-capacity.capacity (vec_items c.in_ok-capacity.lots) = search rules in
-      λ P. rw (fault.1, fault.2) (c.in_ok-pile.pile, c.in_ok-capacity.capacity, vec_items c.in_ok-capacity.lots, asked, c.in_ok-capacity.lots, Err c.in_err-verdict.field-0.0, search rules, refl, refl);
+      λ P. rw (fault.1, fault.2) (c.in_ok-pile.pile, c.in_ok-capacity.capacity, vec_items c.in_ok-capacity.lots, asked, c.in_ok-capacity.lots, refl, (Err c.in_err-verdict.field-0.0, search rules, refl));
 }
 
 pub returns : goal.returns
@@ -31,5 +31,5 @@ returns c = record {
       let count : length after ≡ lots.len = search rules in
       let applied : Applied (pile_meaning c.in_ok-pile.pile) c.in_ok-capacity.capacity (vec_items lots) after (Ok c.in_ok-verdict.verdict) = search rules in
       let filled = applied_filled (pile_meaning c.in_ok-pile.pile) _ lots.len (vec_items lots) after (drop (length after) lots.items) (Ok c.in_ok-verdict.verdict) count applied in
-      λ P. (c.in_ok-pile.pile, c.in_ok-capacity.capacity, vec_items lots, asked, _, Ok c.in_ok-verdict.verdict, filled, refl, refl);
+      λ P. (c.in_ok-pile.pile, c.in_ok-capacity.capacity, vec_items lots, asked, _, refl, (Ok c.in_ok-verdict.verdict, filled, refl));
 }
