@@ -30,6 +30,7 @@ class Random:
         self.increment = 2 * STREAM + 1
         self.state = SEED + self.increment
         self.step()
+        self.draws = self.second_words = 0
 
     def step(self):
         self.state = (self.state * 6_364_136_223_846_793_005 + self.increment) % 2**64
@@ -43,9 +44,11 @@ class Random:
     def between(self, least, most):
         """As rand draws from a range: the upper half of word × ways, and where the lower half is so near its end that
         the next word's could carry over, with that carry."""
+        self.draws += 1
         ways = most - least + 1
         drawn, rest = divmod(self.word() * ways, 2**32)
         if rest > 2**32 - ways:
+            self.second_words += 1
             drawn += rest + self.word() * ways // 2**32 >= 2**32
         return least + drawn
 
@@ -263,6 +266,7 @@ def main():
         print(f"{counts.tables} tables with {counts.schedules} schedules")
         print(f"{counts.of_narrowing + counts.of_searches} comparisons, 0 differences")
         return
+    print(f"{random.draws} draws, {random.second_words} of them of two words")
     print(f"{counts.without} tables without a schedule, at most {counts.most_ways} ways")
     print(f"one application of house: {show(counts.applied)}")
     print(f"tighten by house: {show(counts.tightened)}")
