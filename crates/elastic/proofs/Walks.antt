@@ -106,9 +106,6 @@ module _ (U : ℕ → ℕ) (Ω : List Lot) (ok : Lawful max_capacity Ω) (m a r 
   pub next_required : pos (creq Ω p.minute) ≡ pos r +ℤ p.required
   next_required = level_there (λ q. q.required) (creq Ω) m r p ps w.rising w.ahead.0 w.required
 
-  pub next_later : m ≤ p.minute
-  next_later = w.ahead.0
-
   pub next_in_week : p.minute ≤ horizon
   next_in_week = omega (arith, w.inside.0, latest_in_week max_capacity Ω ok.each)
 

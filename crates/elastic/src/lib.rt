@@ -97,24 +97,9 @@ mod tests {
 
     #[test]
     fn a_lot_more_can_lower_it(rt: HostRuntime) {
-        let early = Lot {
-            est: 0,
-            lct: 1,
-            p: 1,
-            c: 2,
-        };
-        let whole = Lot {
-            est: 0,
-            lct: 3,
-            p: 3,
-            c: 1,
-        };
-        let late = Lot {
-            est: 1,
-            lct: 3,
-            p: 1,
-            c: 1,
-        };
+        let early = Lot::new(0, 1, 1, 2);
+        let whole = Lot::new(0, 3, 3, 1);
+        let late = Lot::new(1, 3, 1, 1);
         assert_eq!(rt; overflow(2, &[early, whole]), Ok((1, 3)));
         assert_eq!(rt; overflow(2, &[early, whole, late]), Ok((0, 4)));
     }

@@ -37,7 +37,7 @@ marked_lots-chosen test k (b ∷ bs) (x ∷ xs) h =
 pub marked_cut : (T : List Lot) (i t : ℕ) (bs : List Bool) → Marks T i t bs → marked_lots bs T ≡ cut T i t
 marked_cut T i t bs h = marked_lots-chosen (is_in_cut i (lot_at T i).est t) 0 bs T (λ j l. h j l ∙ ap (λ n. is_in_cut i (lot_at T i).est t n (lot_at T j)) (omega arith))
 
--- what is left over in the profile of the marked lots, beside the run that stands in
+-- what is left over in the profile of the marked lots, beside the stand-in
 pub left_with_stand_in : (C : ℕ) (T : List Lot) (i t : ℕ) (bs : List Bool) → Marks T i t bs → (m : ℕ) → m ≡ min (ect (lot_at T i)) t → (left : ℕ) → left ≡ overflow C (marked_lots bs T ++ stand_in (lot_at T i).c m (marked_lots bs T)) → left ≡ overflow C (cut_with_stand_in T i t)
 left_with_stand_in C T i t bs h m e left is = is ∙ ap₂ (λ Ω n. overflow C (Ω ++ stand_in (lot_at T i).c n Ω)) (marked_cut T i t bs h) e
 

@@ -1,9 +1,9 @@
 -- The least ect of a list of lots: as a chain of iterators finds it, and that it lies in the week.
-use Rattle.std.proofs.Common.{◌≡◌, ℕ, ◌-◌, ◌≤◌, min, List, [], ◌∷◌, map, sym, ◌∙◌, arith}
+use Rattle.std.proofs.Common.{◌≡◌, ℕ, ◌≤◌, min, List, [], ◌∷◌, map, sym, ◌∙◌, arith}
 use Rattle.std.specs.List.{fold, reduce, AllByRecursion}
 use Rattle.std.specs.Prelude.{unwrap_or}
 use Rattle.lots.specs.Limits.{horizon}
-use Rattle.lots.specs.Tables.{ect, lot_at, LawfulLot, Lawful}
+use Rattle.lots.specs.Tables.{lot_at, LawfulLot, Lawful}
 use Rattle.lots.specs.declared.Lot.{Lot}
 use Rattle.rules.specs.NotFirst.{is_in_cut, cut, least_ect}
 use Rattle.rules.specs.Laws.ChosenLots.{chosen_each}

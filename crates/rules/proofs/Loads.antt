@@ -1,9 +1,9 @@
 -- The loads of the fixed parts, minute by minute, and what is read off them.
-use Rattle.std.proofs.Common.{◌≡◌, ℕ, zero, suc, ◌+◌, ◌-◌, ◌*◌, ◌<◌, ◌≤◌, Bool, true, false, if◌then◌else◌, ◌&&◌, ltb, leb, List, [], ◌∷◌, length, get_or, take, Option, None, Some, MatchOption, Ok, inl, inr, refl, sym, ap, ◌∙◌, subst, arith}
+use Rattle.std.proofs.Common.{◌≡◌, ℕ, zero, suc, ◌+◌, ◌-◌, ◌*◌, ◌<◌, ◌≤◌, Bool, true, false, if◌then◌else◌, ◌&&◌, ltb, leb, List, [], ◌∷◌, length, get_or, take, Ok, refl, sym, ap, ◌∙◌, subst, arith}
 use Rattle.std.specs.Bool.{MatchBool}
 use Rattle.std.specs.List.{AllByRecursion, sum_by}
 use Rattle.std.proofs.ByRecursion.{All-get_or}
-use Rattle.std.proofs.lemmas.Bool.{cases_order, cond-true, cond-false, lt-ltb, le-ltb}
+use Rattle.std.proofs.lemmas.Bool.{lt-ltb, le-ltb}
 use Rattle.std.proofs.lemmas.Bool.Decides.{nat_tests}
 use Rattle.std.proofs.lemmas.List.Recursion.{is_sum_by}
 use Rattle.std.proofs.lemmas.List.Sums.{sum_by_more, sum_by-take-le}
@@ -16,7 +16,7 @@ use Rattle.rule.specs.Meanings.{Applied, dead, IsVerdictOn}
 use Rattle.rule.specs.Raised.{raise}
 use Rattle.rule.specs.declared.Verdict.{Verdict}
 use Rattle.rule.specs.declared.Verdict.TheVariants.{Dead}
-use Rattle.rules.specs.TimeTable.{fixed_trays, fixed_load, fixed_load_of_others, some_below, some_passes, after_last, bound_of, time_table}
+use Rattle.rules.specs.TimeTable.{fixed_trays, fixed_load, fixed_load_of_others, some_passes, after_last, bound_of, time_table}
 use Rattle.rules.specs.Private.Loads.{is_blocked_under}
 use Rattle.rules.specs.declared.time_table.Loads.{Loads}
 use Rattle.rules.specs.Laws.Searches.{some_none}

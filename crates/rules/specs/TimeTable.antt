@@ -1,6 +1,6 @@
 -- The rule time-table: a lot starts after the minutes at which it does not fit beside the fixed parts of
 -- the others.
-use Rattle.std.specs.Prelude.{ℕ, zero, suc, ◌+◌, ◌-◌, Bool, false, if◌then◌else◌, ◌&&◌, ◌||◌, List, [], ◌∷◌, nat_le, nat_lt}
+use Rattle.std.specs.Prelude.{ℕ, zero, suc, ◌+◌, Bool, false, if◌then◌else◌, ◌&&◌, ◌||◌, List, [], ◌∷◌, nat_le, nat_lt}
 use Rattle.lots.specs.Limits.{horizon}
 use Rattle.lots.specs.Schedules.{spans}
 use Rattle.lots.specs.Tables.{ect, lst, lot_at}

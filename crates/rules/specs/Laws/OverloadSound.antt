@@ -5,7 +5,7 @@ use Rattle.std.proofs.lemmas.Bool.{ltb-true, or_cases, false≢true}
 use Rattle.lots.specs.declared.Lot.{Lot}
 use Rattle.elastic.specs.Profile.{overflow}
 use Rattle.elastic.proofs.Soundness.{overflow_of_schedulable}
-use Rattle.rule.specs.Meanings.{Narrower, LawfulSameWork, Keeps, Hopeless, Sound, dead, to}
+use Rattle.rule.specs.Meanings.{Narrower, LawfulSameWork, Keeps, Hopeless, Sound, to}
 use Rattle.rule.specs.Laws.Outcomes.{gives_either, dies_either}
 use Rattle.rule.specs.Laws.Tables.{same_work_refl, narrower_refl}
 use Rattle.rules.specs.Chosen.{chosen_lots, is_overfull}
