@@ -9,7 +9,7 @@ use Rattle.tree.specs.Private.Stack.{free, Standing, Advances, closing, forking}
 use Rattle.tree.specs.Tree.{BestKnown, Leaves, HasChoice, Branch, left, right, Visit, leaf, fork, last_known}
 use Rattle.tree.proofs.Ways.{right_work, right_narrower}
 use Rattle.tree.proofs.Nodes.{leaves_remains}
-use Rattle.tree.proofs.Law.{left_below, right_below, final_append}
+use Rattle.tree.proofs.Law.{left_below, right_below, last_known-append}
 
 -- lots with a choice of starts
 free_one : (x y : Lot) → y.p ≡ x.p → x.est ≤ y.est → y.lct ≤ x.lct → (if nat_lt y.est (lst y) then 1 else 0) ≤ (if nat_lt x.est (lst x) then 1 else 0)
@@ -66,7 +66,7 @@ pending_step m C rs (forking {b} {T} {U} {Ts} j k br) p = left_first rs p
     then_right : (ls cs : List BestKnown) → Visit m C b (left j U) ls → Pending m C (last_known b ls) (right j U ∷ Ts) cs → Pending m C b (T ∷ Ts) (b ∷ (ls ++ cs))
     then_right ls cs v (next {bs = us} {cs = vs} w q) =
         subst (λ rs. Pending m C b (T ∷ Ts) (b ∷ rs)) (append_assoc ls us vs)
-        (next (fork j k br v w) (subst (λ a. Pending m C a Ts vs) (sym (final_append b ls us)) q))
+        (next (fork j k br v w) (subst (λ a. Pending m C a Ts vs) (sym (last_known-append b ls us)) q))
 
     left_first : (rs : List BestKnown) → Pending m C b (left j U ∷ right j U ∷ Ts) rs → Pending m C b (T ∷ Ts) (b ∷ rs)
     left_first _ (next {bs = ls} {cs = cs} v q) = then_right ls cs v q

@@ -1,4 +1,4 @@
-//! One node of the tree: what the best known and the rule leave of its lots, and what becomes of it.
+//! One node of the tree: what is left of its lots, and what becomes of it.
 ghost use Rattle.std.specs.Prelude.{◌≡◌, ◌↔◌, IsTrue};
 ghost use Rattle.lots.specs.Schedules.{end as end_of};
 ghost use Rattle.lots.specs.Tables.{Fits, Lawful};
@@ -24,8 +24,7 @@ impl Known {
         ensures starts { result.starts.items ≡ starts_of table.entry.lots.now }
     {
         let mut starts = ArrayVec::new();
-        // A loop: `from_iter` asks for an allocator, and `extend` gives a `Result`, though the lots
-        // of a table always fit.
+        // There is room for the lots of every table.
         for lot in table.lots {
             starts.push(lot.est);
         }
