@@ -29,9 +29,9 @@ LoadWithin C T true = (t : ℕ) → load t T (earliest_starts T) ≤ C
 LoadWithin C T false = (t : ℕ) × (C < load t T (earliest_starts T))
 
 -- the lot to branch on, where some lot has a choice of starts
-abbrev pub BranchLot : List Lot → Option ℕ → Type 0
-BranchLot T None = (k : ℕ) → k < length T → HasChoice (lot_at T k) → ⊥
-BranchLot T (Some j) = Branch T j
+abbrev pub IsBranchLot : List Lot → Option ℕ → Type 0
+IsBranchLot T None = (k : ℕ) → k < length T → HasChoice (lot_at T k) → ⊥
+IsBranchLot T (Some j) = Branch T j
 
 -- what becomes of the node T, where b is the best known, and U what is left of it
 abbrev pub Seen : Meaning → ℕ → BestKnown → List Lot → List Lot → Fate → Type 0

@@ -16,14 +16,14 @@ abbrev pub unvisited : Trail → List (List Lot)
 unvisited t = tables t.table_len t.depth t.cells.now
 
 -- how many lots have a choice of starts
-abbrev pub free : List Lot → ℕ
-free [] = 0
-free (x ∷ xs) = (if nat_lt x.est (lst x) then 1 else 0) + free xs
+abbrev pub choice_count : List Lot → ℕ
+choice_count [] = 0
+choice_count (x ∷ xs) = (if nat_lt x.est (lst x) then 1 else 0) + choice_count xs
 
 -- tables that can be visited with room for n + 1: one on top of k others has n − k lots with a choice at most
 abbrev pub Standing : ℕ → ℕ → List (List Lot) → Type 0
 Standing C n [] = Unit {0}
-Standing C n (T ∷ Ts) = (Lawful C T × (length T ≡ n) × (free T + length Ts ≤ n)) × Standing C n Ts
+Standing C n (T ∷ Ts) = (Lawful C T × (length T ≡ n) × (choice_count T + length Ts ≤ n)) × Standing C n Ts
 
 -- a visit of the first of the unvisited nodes: from one best known to another, and from some unvisited nodes to
 -- others
