@@ -15,9 +15,9 @@ use Rattle.tree.proofs.Outcomes.{leaves_some}
 use Rattle.tree.proofs.Once.{visit_same}
 
 -- one list of bests after the other
-pub final_append : (b : BestKnown) (ls rs : List BestKnown) → last_known b (ls ++ rs) ≡ last_known (last_known b ls) rs
-final_append b [] rs = refl
-final_append b (x ∷ xs) rs = final_append x xs rs
+pub last_known-append : (b : BestKnown) (ls rs : List BestKnown) → last_known b (ls ++ rs) ≡ last_known (last_known b ls) rs
+last_known-append b [] rs = refl
+last_known-append b (x ∷ xs) rs = last_known-append x xs rs
 
 falling_append : (b : BestKnown) (ls rs : List BestKnown) → Falling b ls → Falling (last_known b ls) rs → Falling b (ls ++ rs)
 falling_append b [] rs p q = q
@@ -55,8 +55,8 @@ module _ (C : ℕ) (b : BestKnown) (T U : List Lot) (r : Remains C b T U) where
     fixed_starts : Placed U (earliest_starts U)
     fixed_starts = fixed_placed C U r.below.lawful.each f
 
-    overfull_optimal : (t : ℕ) → C < load t U (earliest_starts U) → Optimal C T b b
-    overfull_optimal t o = nothing_better C T b (λ ss s. elim (lost_or_kept ss s) [
+    above_optimal : (t : ℕ) → C < load t U (earliest_starts U) → Optimal C T b b
+    above_optimal t o = nothing_better C T b (λ ss s. elim (lost_or_kept ss s) [
       | inl h ↦ h
       | inr q ↦
           let e = fixed_only C U ss r.below.lawful.each f q.placed in
@@ -172,7 +172,7 @@ module _ (m : Meaning) (sound : Sound m) (C : ℕ) where
   -- it finds the best
   closes_optimal : (b a : BestKnown) (T : List Lot) → Lawful C T → Closes m C b T a → Optimal C T b a
   closes_optimal b _ T ok (barren n) = nothing_better C T b (leaves_dead m sound C b T ok n)
-  closes_optimal b _ T ok (above_capacity {U} t n f o) = overfull_optimal C b T U (leaves_remains m sound C b T U ok n) f t o
+  closes_optimal b _ T ok (above_capacity {U} t n f o) = above_optimal C b T U (leaves_remains m sound C b T U ok n) f t o
   closes_optimal b _ T ok (found {U} n f w) = found_optimal C b T U (leaves_remains m sound C b T U ok n) f w
 
   pub visit_optimal : {b : BestKnown} {T : List Lot} {bs : List BestKnown} → Visit m C b T bs → Lawful C T → Optimal C T b (last_known b bs)
@@ -180,7 +180,7 @@ module _ (m : Meaning) (sound : Sound m) (C : ℕ) where
   visit_optimal (fork {b} {T} {U} {ls} {rs} j n br p q) ok =
       let l = visit_optimal p (left_below b T U ok n j br).lawful in
       let r = visit_optimal q (right_below b T U ok n j br).lawful in
-      subst (Optimal C T b) (sym (final_append b ls rs)) (fork_optimal b T U ok n j br (last_known b ls) (last_known (last_known b ls) rs) l r)
+      subst (Optimal C T b) (sym (last_known-append b ls rs)) (fork_optimal b T U ok n j br (last_known b ls) (last_known (last_known b ls) rs) l r)
 
   pub visit_falling : {b : BestKnown} {T : List Lot} {bs : List BestKnown} → Visit m C b T bs → Lawful C T → Falling b bs
   visit_falling (leaf {b} {a} {T} h) ok = ((closes_optimal b a T ok h).no_later, tt)

@@ -58,5 +58,5 @@ module _ (m : Meaning) (sound : Sound m) (C : ℕ) (b : BestKnown) (T V : List L
         pub alive_found : (ss : List ℕ) (e : ℕ) → ss ≡ earliest_starts U → e ≡ end U (earliest_starts U) → ((t : ℕ) → load t U (earliest_starts U) ≤ C) → Closes m C b T (known ss e)
         alive_found ss e same ends within = subst (Closes m C b T) (sym (ap₂ known same ends)) (found alive_leaves (none_free C U alive_lawful fixed) within)
 
-        pub alive_overfull : (t : ℕ) × (C < load t U (earliest_starts U)) → Closes m C b T b
-        alive_overfull (t, over) = above_capacity t alive_leaves (none_free C U alive_lawful fixed) over
+        pub alive_above : (t : ℕ) × (C < load t U (earliest_starts U)) → Closes m C b T b
+        alive_above (t, over) = above_capacity t alive_leaves (none_free C U alive_lawful fixed) over

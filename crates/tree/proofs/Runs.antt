@@ -8,8 +8,8 @@ use Rattle.rule.specs.Meanings.{Meaning, Sound}
 use Rattle.tree.specs.Private.Stack.{tables, Standing, Advances, Stopped}
 use Rattle.tree.specs.Tree.{BestKnown, unknown, Visit, last_known}
 use Rattle.tree.proofs.Cells.{tables_count}
-use Rattle.tree.proofs.Law.{final_append, visit_some, visit_short}
-use Rattle.tree.proofs.Stacks.{free_most, Pending, done, next, pending_step, standing_on}
+use Rattle.tree.proofs.Law.{last_known-append, visit_some, visit_short}
+use Rattle.tree.proofs.Stacks.{choice_count_most, Pending, done, next, pending_step, standing_on}
 
 -- k nodes of the tree over T are visited, b is the best known and Ts are the unvisited nodes
 pub record Searching (m : Meaning) (C : ℕ) (T : List Lot) (b : BestKnown) (Ts : List (List Lot)) (k : ℕ) : Type 0 where
@@ -29,7 +29,7 @@ module _ (m : Meaning) (C : ℕ) (T : List Lot) where
   searching_on b a Ts Us k step s = record {
     visited = s.visited ++ (a ∷ []);
     count = omega (arith, length-append s.visited (a ∷ []), s.count);
-    best = final_append unknown s.visited (a ∷ []);
+    best = last_known-append unknown s.visited (a ∷ []);
     rest = λ rs p. subst (Visit m C unknown T) (sym (append_assoc s.visited (a ∷ []) rs)) (s.rest (a ∷ rs) (pending_step m C rs step p));
   }
 
@@ -72,4 +72,4 @@ module _ (m : Meaning) (sound : Sound m) (C n : ℕ) where
 
 -- the stack with the first node alone
 pub first_node : (m : Meaning) (C : ℕ) (T : List Lot) (Ts : List (List Lot)) → Ts ≡ T ∷ [] → Lawful C T → Standing C (length T) Ts × Searching m C T unknown Ts 0
-first_node m C T Ts e ok = subst (λ Us. Standing C (length T) Us × Searching m C T unknown Us 0) (sym e) (((ok, refl, omega (arith, free_most T)), tt), searching_first m C T)
+first_node m C T Ts e ok = subst (λ Us. Standing C (length T) Us × Searching m C T unknown Us 0) (sym e) (((ok, refl, omega (arith, choice_count_most T)), tt), searching_first m C T)

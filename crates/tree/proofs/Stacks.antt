@@ -5,42 +5,42 @@ use Rattle.std.proofs.lemmas.List.Elements.{length_all_zip}
 use Rattle.lots.specs.Tables.{ect, lst, lot_at, Lawful}
 use Rattle.lots.specs.declared.Lot.{Lot}
 use Rattle.rule.specs.Meanings.{Meaning, to, SameWork, Narrower, Sound}
-use Rattle.tree.specs.Private.Stack.{free, Standing, Advances, closing, forking}
+use Rattle.tree.specs.Private.Stack.{choice_count, Standing, Advances, closing, forking}
 use Rattle.tree.specs.Tree.{BestKnown, Leaves, HasChoice, Branch, left, right, Visit, leaf, fork, last_known}
 use Rattle.tree.proofs.Ways.{right_work, right_narrower}
 use Rattle.tree.proofs.Nodes.{leaves_remains}
-use Rattle.tree.proofs.Law.{left_below, right_below, final_append}
+use Rattle.tree.proofs.Law.{left_below, right_below, last_known-append}
 
 -- lots with a choice of starts
-free_one : (x y : Lot) → y.p ≡ x.p → x.est ≤ y.est → y.lct ≤ x.lct → (if nat_lt y.est (lst y) then 1 else 0) ≤ (if nat_lt x.est (lst x) then 1 else 0)
-free_one x y e f g = grind (arith, nat_tests)
+choice-narrower : (x y : Lot) → y.p ≡ x.p → x.est ≤ y.est → y.lct ≤ x.lct → (if nat_lt y.est (lst y) then 1 else 0) ≤ (if nat_lt x.est (lst x) then 1 else 0)
+choice-narrower x y e f g = grind (arith, nat_tests)
 
-free_fewer : (T U : List Lot) → SameWork T U → Narrower T U → free U ≤ free T
-free_fewer [] [] w n = omega arith
-free_fewer [] (y ∷ ys) w n = absurd w
-free_fewer (x ∷ xs) [] w n = absurd w
-free_fewer (x ∷ xs) (y ∷ ys) w n = omega (arith, free_one x y w.0.0 n.0.0 n.0.1, free_fewer xs ys w.1 n.1)
+choice_count-narrower : (T U : List Lot) → SameWork T U → Narrower T U → choice_count U ≤ choice_count T
+choice_count-narrower [] [] w n = omega arith
+choice_count-narrower [] (y ∷ ys) w n = absurd w
+choice_count-narrower (x ∷ xs) [] w n = absurd w
+choice_count-narrower (x ∷ xs) (y ∷ ys) w n = omega (arith, choice-narrower x y w.0.0 n.0.0 n.0.1, choice_count-narrower xs ys w.1 n.1)
 
-free_left : (U : List Lot) (j : ℕ) → j < length U → HasChoice (lot_at U j) → free (left j U) + 1 ≤ free U
-free_left [] j h f = absurd (omega arith)
-free_left (x ∷ xs) zero h f =
+choice_count-left : (U : List Lot) (j : ℕ) → j < length U → HasChoice (lot_at U j) → choice_count (left j U) + 1 ≤ choice_count U
+choice_count-left [] j h f = absurd (omega arith)
+choice_count-left (x ∷ xs) zero h f =
     let on : nat_lt x.est (lst x) ≡ true = grind (arith, nat_tests) in
     let off : nat_lt x.est (ect x - x.p) ≡ false = grind (arith, nat_tests) in
-    omega (arith, ap (λ b. (if b then 1 else 0) + free xs) on, ap (λ b. (if b then 1 else 0) + free xs) off)
-free_left (x ∷ xs) (suc j) h f = omega (arith, free_left xs j (omega arith) f)
+    omega (arith, ap (λ b. (if b then 1 else 0) + choice_count xs) on, ap (λ b. (if b then 1 else 0) + choice_count xs) off)
+choice_count-left (x ∷ xs) (suc j) h f = omega (arith, choice_count-left xs j (omega arith) f)
 
-pub free_most : (T : List Lot) → free T ≤ length T
-free_most [] = omega arith
-free_most (x ∷ xs) = let one : (if nat_lt x.est (lst x) then 1 else 0) ≤ 1 = grind (arith, nat_tests) in omega (arith, free_most xs)
+pub choice_count_most : (T : List Lot) → choice_count T ≤ length T
+choice_count_most [] = omega arith
+choice_count_most (x ∷ xs) = let one : (if nat_lt x.est (lst x) then 1 else 0) ≤ 1 = grind (arith, nat_tests) in omega (arith, choice_count_most xs)
 
 module _ (m : Meaning) (sound : Sound m) (C : ℕ) where
   -- the nodes below a node have fewer lots with a choice on the left, and no more on the right
-  pub free_below : (b : BestKnown) (T U : List Lot) → Lawful C T → Leaves m C b T (to U) → (j : ℕ) → Branch U j → (free (left j U) + 1 ≤ free T) × (free (right j U) ≤ free T)
-  free_below b T U ok n j br =
+  pub choice_counts_below : (b : BestKnown) (T U : List Lot) → Lawful C T → Leaves m C b T (to U) → (j : ℕ) → Branch U j → (choice_count (left j U) + 1 ≤ choice_count T) × (choice_count (right j U) ≤ choice_count T)
+  choice_counts_below b T U ok n j br =
       let here = (leaves_remains m sound C b T U ok n).below in
-      let u = free_fewer T U here.work here.narrower in
-      let r = free_fewer U (right j U) (right_work C U here.lawful j br) (right_narrower C U here.lawful j br) in
-      omega (arith, free_left U j br.inside br.choice)
+      let u = choice_count-narrower T U here.work here.narrower in
+      let r = choice_count-narrower U (right j U) (right_work C U here.lawful j br) (right_narrower C U here.lawful j br) in
+      omega (arith, choice_count-left U j br.inside br.choice)
 
   -- a visit leaves the stack standing
   pub standing_on : (n : ℕ) {b a : BestKnown} {Ts Us : List (List Lot)} → Advances m C b Ts a Us → Standing C n Ts → Standing C n Us
@@ -48,7 +48,7 @@ module _ (m : Meaning) (sound : Sound m) (C : ℕ) where
   standing_on n (forking {b} {T} {U} {Ts} j k br) s =
       let l = left_below m sound C b T U s.0.0 k j br in
       let r = right_below m sound C b T U s.0.0 k j br in
-      let f = free_below b T U s.0.0 k j br in (
+      let f = choice_counts_below b T U s.0.0 k j br in (
         (l.lawful, sym (length_all_zip _ _ _ l.work) ∙ s.0.1, omega (arith, s.0.2)),
         ((r.lawful, sym (length_all_zip _ _ _ r.work) ∙ s.0.1, omega (arith, s.0.2)), s.1),
       )
@@ -66,7 +66,7 @@ pending_step m C rs (forking {b} {T} {U} {Ts} j k br) p = left_first rs p
     then_right : (ls cs : List BestKnown) → Visit m C b (left j U) ls → Pending m C (last_known b ls) (right j U ∷ Ts) cs → Pending m C b (T ∷ Ts) (b ∷ (ls ++ cs))
     then_right ls cs v (next {bs = us} {cs = vs} w q) =
         subst (λ rs. Pending m C b (T ∷ Ts) (b ∷ rs)) (append_assoc ls us vs)
-        (next (fork j k br v w) (subst (λ a. Pending m C a Ts vs) (sym (final_append b ls us)) q))
+        (next (fork j k br v w) (subst (λ a. Pending m C a Ts vs) (sym (last_known-append b ls us)) q))
 
     left_first : (rs : List BestKnown) → Pending m C b (left j U ∷ right j U ∷ Ts) rs → Pending m C b (T ∷ Ts) (b ∷ rs)
     left_first _ (next {bs = ls} {cs = cs} v q) = then_right ls cs v q

@@ -9,7 +9,7 @@ use Rattle.tree.specs.Private.Stack.{tables, Standing}
 use Rattle.tree.specs.Tree.{BestKnown, Leaves, Branch}
 use Rattle.tree.proofs.Cells.{tables_count}
 use Rattle.tree.proofs.Nodes.{leaves_remains}
-use Rattle.tree.proofs.Stacks.{free_below}
+use Rattle.tree.proofs.Stacks.{choice_counts_below}
 
 module _ (m : Meaning) (sound : Sound m) (C : ℕ) (b : BestKnown) (T U : List Lot) (ok : Lawful C T) (n : Leaves m C b T (to U)) (j : ℕ) (br : Branch U j) where
   pub fork_in_week : ect (lot_at U j) ≤ horizon
@@ -18,4 +18,4 @@ module _ (m : Meaning) (sound : Sound m) (C : ℕ) (b : BestKnown) (T U : List L
       omega (arith, l.has_time, l.in_week)
 
   pub fork_has_room : (len d : ℕ) (cells : List Lot) → Standing C len (T ∷ tables len d cells) → d < len
-  fork_has_room len d cells s = let f = free_below m sound C b T U ok n j br in omega (arith, s.0.2, tables_count len d cells)
+  fork_has_room len d cells s = let f = choice_counts_below m sound C b T U ok n j br in omega (arith, s.0.2, tables_count len d cells)

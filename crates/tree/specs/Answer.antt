@@ -20,7 +20,8 @@ trail_cells n = n * n + n
 abbrev pub max_trail : ℕ
 max_trail = trail_cells max_lots
 
--- for n lots, a budget of B nodes, a trail of so many cells and so many places for starts
+-- the checks of a search for n lots, with a budget of B nodes, so many cells of a trail and so many places for
+-- starts
 abbrev pub solve_checks : ℕ → ℕ → ℕ → ℕ → List Check
 solve_checks n B cells places =
     record { refusal = Budget; applies = B ≡ 0 }
@@ -34,19 +35,26 @@ nodes (Best e k) = k
 nodes (None k) = k
 nodes (Spent k) = k
 
--- the answer to a visit bs of n lots under the budget B, where ss is what the place for starts held before and us what it holds after
+-- the answer to a visit bs of n lots under the budget B, where ss is what the places for starts held before,
+-- and us what they hold after
 abbrev pub Told : ℕ → ℕ → List BestKnown → List ℕ → List ℕ → Search → Type 0
-Told n B bs ss us (Best e k) = (k ≡ length bs) × (k ≤ B) × (last_known unknown bs ≡ known (take n us) e) × (drop n us ≡ drop n ss)
+Told n B bs ss us (Best e k) =
+    (k ≡ length bs) × (k ≤ B) × (last_known unknown bs ≡ known (take n us) e) × (drop n us ≡ drop n ss)
 Told n B bs ss us (None k) = (k ≡ length bs) × (k ≤ B) × (last_known unknown bs ≡ unknown) × (us ≡ ss)
 Told n B bs ss us (Spent k) = (k ≡ B) × (B < length bs) × (us ≡ ss)
 
--- a search of T by the rule m, where cs are the cells of the trail before and ds after
-abbrev pub Solved : Meaning → ℕ → List Lot → ℕ → List Lot → List Lot → List ℕ → List ℕ → Result Search Refusal → Type 0
+-- a search of T by the rule m under the budget B, where cs are the cells of the trail before and ds after, ss
+-- what the places for starts held before and us what they hold after
+abbrev pub Solved : Meaning → ℕ → List Lot → ℕ → List Lot → List Lot → List ℕ → List ℕ →
+    Result Search Refusal → Type 0
 Solved m C T B cs ds ss us r =
-    Checked (solve_checks (length T) B (length cs) (length ss)) ((ds ≡ cs) × (us ≡ ss))
-    (λ a. (ds ≡ replicate (length cs) blank) × ((bs : List BestKnown) × Visit m C unknown T bs × Told (length T) B bs ss us a)) r
+    Checked (solve_checks (length T) B (length cs) (length ss))
+    ((ds ≡ cs) × (us ≡ ss))
+    (λ a. (ds ≡ replicate (length cs) blank)
+    × ((bs : List BestKnown) × Visit m C unknown T bs × Told (length T) B bs ss us a))
+    r
 
--- what the answer means for T, where us is what the place for starts holds
+-- what the answer means for T, where us is what the places for starts hold
 abbrev pub Right : ℕ → List Lot → List ℕ → Search → Type 0
 Right C T us (Best e k) = BestSchedule C T e (take (length T) us)
 Right C T us (None k) = Hopeless C T

@@ -36,7 +36,8 @@ abbrev pub ComesTo : Meaning → ℕ → List Lot → Outcome → Type 0
 ComesTo m C T dead = (n : ℕ) × (W : List Lot) × Moves m C T n W × (m C W ≡ dead)
 ComesTo m C T (to U) = (n : ℕ) × Moves m C T n U × (m C U ≡ to U)
 
--- what is left of the node T, where b is the best known: dead where a lot does not fit before its end, else what the rule makes of the lots cut under it
+-- what is left of the node T, where b is the best known: dead where a run does not fit before its end, else
+-- what the rule makes of the lots that are out before it
 pub data Leaves (m : Meaning) (C : ℕ) (b : BestKnown) (T : List Lot) : Outcome → Type 0 where
   late : (Fits (under b T) → ⊥) → Leaves m C b T dead
   tight : {o : Outcome} → Fits (under b T) → ComesTo m C (under b T) o → Leaves m C b T o
@@ -45,6 +46,7 @@ pub data Leaves (m : Meaning) (C : ℕ) (b : BestKnown) (T : List Lot) : Outcome
 abbrev pub Fixed : List Lot → Type 0
 Fixed U = AllByRecursion (λ x. x.est ≡ lst x) U
 
+-- each lot at its est
 abbrev pub earliest_starts : List Lot → List ℕ
 earliest_starts U = map (λ x. x.est) U
 
@@ -76,18 +78,25 @@ right j U = slice_set U j (a_minute_later (lot_at U j))
 -- the node T is closed, and the best known goes from b to another, perhaps the same
 pub data Closes (m : Meaning) (C : ℕ) (b : BestKnown) (T : List Lot) : BestKnown → Type 0 where
   barren : Leaves m C b T dead → Closes m C b T b
-  above_capacity : {U : List Lot} (t : ℕ) → Leaves m C b T (to U) → Fixed U → C < load t U (earliest_starts U) → Closes m C b T b
-  found : {U : List Lot} → Leaves m C b T (to U) → Fixed U → ((t : ℕ) → load t U (earliest_starts U) ≤ C) → Closes m C b T (known (earliest_starts U) (end U (earliest_starts U)))
+  above_capacity : {U : List Lot} (t : ℕ) → Leaves m C b T (to U) → Fixed U →
+      C < load t U (earliest_starts U) → Closes m C b T b
+  found : {U : List Lot} → Leaves m C b T (to U) → Fixed U →
+      ((t : ℕ) → load t U (earliest_starts U) ≤ C) →
+      Closes m C b T (known (earliest_starts U) (end U (earliest_starts U)))
 
 -- the last of a list of bests, where b came before it
 abbrev pub last_known : BestKnown → List BestKnown → BestKnown
 last_known b [] = b
 last_known b (x ∷ xs) = last_known x xs
 
--- a visit of the node T and of all below it, where b is the best known: the best known after each node, in the order of the visit
+-- a visit of the node T and of all below it, where b is the best known: the best known after each node, in the
+-- order of the visit
 pub data Visit (m : Meaning) (C : ℕ) : BestKnown → List Lot → List BestKnown → Type 0 where
   leaf : {b a : BestKnown} {T : List Lot} → Closes m C b T a → Visit m C b T (a ∷ [])
-  fork : {b : BestKnown} {T U : List Lot} {ls rs : List BestKnown} (j : ℕ) → Leaves m C b T (to U) → Branch U j → Visit m C b (left j U) ls → Visit m C (last_known b ls) (right j U) rs → Visit m C b T (b ∷ (ls ++ rs))
+  fork : {b : BestKnown} {T U : List Lot} {ls rs : List BestKnown} (j : ℕ) →
+      Leaves m C b T (to U) → Branch U j →
+      Visit m C b (left j U) ls → Visit m C (last_known b ls) (right j U) rs →
+      Visit m C b T (b ∷ (ls ++ rs))
 
 -- the ends of a list of bests never rise, where b came before it
 abbrev pub Falling : BestKnown → List BestKnown → Type 0

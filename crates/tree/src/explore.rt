@@ -3,8 +3,8 @@ ghost use Rattle.std.specs.Prelude.{◌≡◌, ◌+◌, ◌-◌, ◌*◌, ◌<�
 ghost use Rattle.lots.specs.Limits.{horizon};
 ghost use Rattle.lots.specs.Tables.{ect as earliest_end, lot_at};
 ghost use Rattle.tree.specs.Answer.{nodes as nodes_of, trail_cells, Solved, Right};
-ghost use Rattle.tree.specs.Private.Held.{best_known, unvisited, Explores};
-ghost use Rattle.tree.specs.Private.Stack.{Standing, Advances};
+ghost use Rattle.tree.specs.Private.Held.{best_known, Explores};
+ghost use Rattle.tree.specs.Private.Stack.{unvisited, Standing, Advances};
 ghost use Rattle.tree.specs.Tree.{ways, at_once as starts_at_once, a_minute_later as starts_a_minute_later, left as left_of, right as right_of};
 
 use crate::Search;
@@ -106,9 +106,13 @@ fn explore<R: Rule>(rule: &R, table: Table<'_>, budget: u32, cells: &mut [Lot]) 
     }
 }
 
-/// Searches for the best schedule of a table by a rule, and visits `budget` nodes at most. For n
-/// lots it asks for n × n + n cells of a trail and n places for starts. A search leaves every cell
-/// blank, and writes the starts where there is a best.
+/// What a search for a best schedule of a table by a rule comes to, with `budget` nodes to visit at
+/// most (docs/SEARCH.md). With best, the first n places hold the starts by number, for n lots.
+///
+/// It refuses with `Budget`, `Trail` or `Starts`, the first that applies: the budget is 0, the
+/// trail has fewer than n × n + n cells, there are fewer than n places for starts. A refused search
+/// alters nothing. After any other every cell of the trail is blank, also past those it asks for,
+/// and the places for starts are as they were but for those that best writes.
 pub fn solve<R: Rule>(
     rule: &R,
     table: Table<'_>,
@@ -118,7 +122,7 @@ pub fn solve<R: Rule>(
 ) -> Result<Search, Refusal>
     ensures exact { Solved (R.meaning rule.now) table.entry.capacity table.entry.lots.now budget
         trail.old trail.new starts.old starts.new result }
-    ensures short { IfOk result (λ a. nodes_of a ≤ 2 * ways table.entry.lots.now - 1) }
+    ensures short { IfOk result (λ search. nodes_of search ≤ 2 * ways table.entry.lots.now - 1) }
     ensures right { IfOk result (Right table.entry.capacity table.entry.lots.now starts.new) }
 {
     let n = table.lots.len();
@@ -152,7 +156,6 @@ mod tests {
     use crate::MAX_TRAIL;
     use rule::Idle;
 
-    // Field by field: a constant can call no function.
     const LOOSE: Lot = Lot {
         est: 0,
         lct: 2,

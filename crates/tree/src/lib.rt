@@ -1,4 +1,4 @@
-//! The search for the best schedule of a table: a tree of ever narrower tables, visited left before
+//! The search for a best schedule of a table: a tree of ever narrower tables, visited left before
 //! right.
 #![tactic(auto)]
 
@@ -13,15 +13,17 @@ mod trail;
 pub use explore::solve;
 pub use promise::each_table_has_one_visit;
 
-/// The cells of a trail that serves every table.
+/// The cells of a trail that serves every table: n × n + n, for the most lots n (docs/SEARCH.md,
+/// "The trail").
 pub const MAX_TRAIL: usize = MAX_LOTS * MAX_LOTS + MAX_LOTS;
 
-/// What a search answers. Each has the number of nodes that it visited.
+/// What a search answers (docs/SEARCH.md, "The search"). `nodes` is how many nodes it visited.
 #[derive(Clone, Copy, PartialEq, Eq, Debug)]
 pub enum Search {
-    /// The best schedule, which ends at `end`.
+    /// The whole tree was visited, and there is a schedule: a best one has its last lot out at the
+    /// minute `end`.
     Best { end: u16, nodes: u32 },
-    /// There is no schedule.
+    /// The whole tree was visited, and there is no schedule.
     None { nodes: u32 },
     /// The budget is used up, and a node is unvisited.
     Spent { nodes: u32 },

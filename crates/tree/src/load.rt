@@ -1,9 +1,8 @@
 //! The load of a table whose lots each start at their est.
-ghost use Rattle.std.specs.Prelude.{◌≡◌, ◌≤◌};
-ghost use Rattle.std.specs.List.{AllByRecursion};
+ghost use Rattle.std.specs.Prelude.{◌≡◌};
 ghost use Rattle.lots.specs.Schedules.{spans, end as end_of};
 ghost use Rattle.lots.specs.Tables.{ect as earliest_end};
-ghost use Rattle.tree.specs.Private.Held.{LoadWithin};
+ghost use Rattle.tree.specs.Private.Held.{IsLeastEst, LoadWithin};
 ghost use Rattle.tree.specs.Tree.{earliest_starts as starts_of};
 
 use lots::{Lot, Table};
@@ -17,7 +16,7 @@ pub(crate) fn last_end(lots: &[Lot]) -> u32
 
 // The minute at which the first lot goes in, and 0 without lots.
 fn first_start(lots: &[Lot]) -> u32
-    ensures answer { AllByRecursion (λ x. result ≤ x.est) lots.now }
+    ensures answer { IsLeastEst lots.now result }
 {
     lots.iter().map(|lot| u32::from(lot.est)).min().unwrap_or(0)
 }
@@ -32,8 +31,7 @@ fn runs_at(lot: &Lot, minute: u32) -> bool
 pub(crate) fn is_within(table: Table<'_>) -> bool
     ensures answer { LoadWithin table.entry.capacity table.entry.lots.now result }
 {
-    // Two loops and four levels, since both loops are left at the first overfull minute: hence the
-    // label. With the inner loop apart, its answer would be asked again at once.
+    // Both loops are left at the first minute whose load passes the capacity.
     'load: {
         for minute in first_start(table.lots)..last_end(table.lots) {
             let mut load = 0;

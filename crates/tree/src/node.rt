@@ -1,9 +1,9 @@
-//! One node of the tree: what the best known and the rule leave of its lots, and what becomes of it.
+//! One node of the tree: what is left of its lots, and what becomes of it.
 ghost use Rattle.std.specs.Prelude.{◌≡◌, ◌↔◌, IsTrue};
 ghost use Rattle.lots.specs.Schedules.{end as end_of};
 ghost use Rattle.lots.specs.Tables.{Fits, Lawful};
 ghost use Rattle.tree.specs.Tree.{under, earliest_starts as starts_of};
-ghost use Rattle.tree.specs.Private.Held.{best_known, BranchLot, Seen};
+ghost use Rattle.tree.specs.Private.Held.{best_known, IsBranchLot, Seen};
 
 use crate::load::{is_within, last_end};
 use arrayvec::ArrayVec;
@@ -24,8 +24,7 @@ impl Known {
         ensures starts { result.starts.items ≡ starts_of table.entry.lots.now }
     {
         let mut starts = ArrayVec::new();
-        // A loop: `from_iter` asks for an allocator, and `extend` gives a `Result`, though the lots
-        // of a table always fit.
+        // There is room for the lots of every table.
         for lot in table.lots {
             starts.push(lot.est);
         }
@@ -65,7 +64,7 @@ fn cut_under(best: &Option<Known>, lots: &mut [Lot]) -> bool
 
 // The lot to branch on: of those with a choice of starts the first of the least est.
 fn branch_lot(lots: &[Lot]) -> Option<usize>
-    ensures answer { BranchLot lots.now result }
+    ensures answer { IsBranchLot lots.now result }
 {
     let mut pick: Option<usize> = None;
     for (number, lot) in lots.iter().enumerate() {

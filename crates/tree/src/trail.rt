@@ -2,13 +2,12 @@
 ghost use Rattle.std.specs.Prelude.{◌≡◌, ◌+◌, ◌*◌, ◌<◌, ◌≤◌, ◌↔◌, IsTrue, ◌∷◌, length, take, drop, MatchOption};
 ghost use Rattle.lots.specs.Limits.{max_lots};
 ghost use Rattle.tree.specs.Answer.{trail_cells};
-ghost use Rattle.tree.specs.Private.Stack.{tables};
 
 use arrayvec::ArrayVec;
 use lots::{Lot, MAX_LOTS};
 
 /// Tables of `table_len` lots each, one after another from the first cell on, and never more than
-/// fit in the cells that a search asks for. The cells are lent, since nothing here allocates.
+/// fit in the cells that a search asks for.
 #[derive(Drop)]
 pub(crate) struct Trail<'a> {
     cells: &'a mut [Lot],
@@ -20,6 +19,8 @@ pub(crate) struct Trail<'a> {
 }
 
 impl<'a> Trail<'a> {
+    ghost use Rattle.tree.specs.Private.Stack.{unvisited};
+
     /// How many cells it takes for tables of so many lots.
     pub(crate) fn cells_for(table_len: usize) -> usize
         requires few_lots { table_len ≤ max_lots }
@@ -52,8 +53,7 @@ impl<'a> Trail<'a> {
         requires room { self.old.depth ≤ self.old.table_len }
         requires len { length table.now ≡ self.old.table_len }
         ensures same_len { self.new.table_len ≡ self.old.table_len }
-        ensures pushed { tables self.new.table_len self.new.depth self.new.cells.now
-            ≡ table.now ∷ tables self.old.table_len self.old.depth self.old.cells.now }
+        ensures pushed { unvisited self.new ≡ table.now ∷ unvisited self.old }
     {
         let len = self.table_len;
         let at = self.depth * len;
@@ -65,8 +65,8 @@ impl<'a> Trail<'a> {
     // The node with this number, from 0 for the first that was saved.
     fn table(&self, number: usize) -> ArrayVec<Lot, MAX_LOTS>
         requires inside { number < self.now.depth }
-        ensures answer { result.items
-            ≡ take self.now.table_len (drop (number * self.now.table_len) self.now.cells.now) }
+        ensures answer { let len = self.now.table_len in
+            result.items ≡ take len (drop (number * len) self.now.cells.now) }
     {
         let at = number * self.table_len;
         // There is room for the lots of a table.
@@ -76,9 +76,9 @@ impl<'a> Trail<'a> {
     /// Takes off the node that was saved last.
     pub(crate) fn pop(&mut self) -> Option<ArrayVec<Lot, MAX_LOTS>>
         ensures same_len { self.new.table_len ≡ self.old.table_len }
-        ensures popped { MatchOption result ((self.old.depth ≡ 0) × (self.new.depth ≡ 0))
-            (λ table. tables self.old.table_len self.old.depth self.old.cells.now
-            ≡ table.items ∷ tables self.new.table_len self.new.depth self.new.cells.now) }
+        ensures popped { MatchOption result
+            ((self.old.depth ≡ 0) × (self.new.depth ≡ 0))
+            (λ table. unvisited self.old ≡ table.items ∷ unvisited self.new) }
     {
         let number = self.depth.checked_sub(1)?;
         let table = self.table(number);

@@ -1,6 +1,6 @@
 use Rattle.std.proofs.Common.{◌≡◌, ◌-◌, ◌≤◌, length}
-use Rattle.tree.specs.Private.Held.{best_known, unvisited}
-use Rattle.tree.specs.Private.Stack.{Standing}
+use Rattle.tree.specs.Private.Held.{best_known}
+use Rattle.tree.specs.Private.Stack.{unvisited, Standing}
 use Rattle.tree.proofs.Runs.{Searching}
 use Rattle.tree.proofs.explore.explore.Given as goal
 

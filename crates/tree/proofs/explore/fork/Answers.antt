@@ -1,7 +1,7 @@
 use Rattle.std.proofs.Common.{List, ◌∷◌, length, set, ap, ap₂, ◌∙◌, arith}
 use Rattle.std.proofs.lemmas.List.{set-set}
 use Rattle.lots.specs.declared.Lot.{Lot}
-use Rattle.tree.specs.Private.Held.{unvisited}
+use Rattle.tree.specs.Private.Stack.{unvisited}
 use Rattle.tree.proofs.Cells.{tables_count}
 use Rattle.tree.proofs.explore.fork.Goals as goal
 

@@ -1,5 +1,5 @@
 use Rattle.std.proofs.lemmas.Bool.Decides.{not_from_Decides}
-use Rattle.tree.proofs.Looks.{settles_ok, cut_late, cut_lawful, cut_dead, alive_lawful, alive_leaves, alive_found, alive_overfull}
+use Rattle.tree.proofs.Looks.{settles_ok, cut_late, cut_lawful, cut_dead, alive_lawful, alive_leaves, alive_found, alive_above}
 use Rattle.tree.proofs.node.look.Goals as goal
 
 pub returns-then-not-cut_under : goal.returns-then-not-cut_under
@@ -43,6 +43,6 @@ pub returns-else-is_within : goal.returns-else-is_within
 returns-else-is_within g c = record {
   answer =
       let s = rw c.unwrap-verdict.ensures at c.settle.ensures.answer in
-      alive_overfull _ (g.met.R.Rule.sound c.args.rule.now) _ _ _ _ c.requires.lawful c.cut_under.ensures.after (c.cut_under.ensures.fits.0 c.if-not-cut_under.false) _ _ _ c.in_default.not-Dead s.1
+      alive_above _ (g.met.R.Rule.sound c.args.rule.now) _ _ _ _ c.requires.lawful c.cut_under.ensures.after (c.cut_under.ensures.fits.0 c.if-not-cut_under.false) _ _ _ c.in_default.not-Dead s.1
       c.in_default-branch_lot.ensures.answer c.if-is_within.ensures.answer;
 }
