@@ -1,5 +1,5 @@
 -- What a cut text has still to give.
-use Rattle.std.specs.Prelude.{ℕ, ◌-◌, if◌then◌else◌, List, []}
+use Rattle.std.specs.Prelude.{ℕ, if◌then◌else◌, List, []}
 use Rattle.std.specs.declared.str.Split.{Split}
 use Rattle.std.specs.Str.Iter.{split_text, split_has_more, split_pattern}
 use Rattle.console.specs.Syntax.{pieces}
