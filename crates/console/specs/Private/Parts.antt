@@ -5,5 +5,5 @@ use Rattle.std.specs.Str.Iter.{split_text, split_has_more, split_pattern}
 use Rattle.console.specs.Syntax.{pieces}
 
 -- the pieces that a cut text has still to give
-abbrev pub to_come : Split ℕ → List (List ℕ)
-to_come s = if split_has_more s then pieces (split_pattern s) (split_text s) else []
+abbrev pub pieces_to_come : Split ℕ → List (List ℕ)
+pieces_to_come s = if split_has_more s then pieces (split_pattern s) (split_text s) else []
