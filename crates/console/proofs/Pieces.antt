@@ -13,7 +13,7 @@ use Rattle.std.proofs.lemmas.List.Splits.{slice_split_none, slice_split_at}
 use Rattle.std.proofs.lemmas.Str.{len_utf8_bounds}
 use Rattle.std.proofs.lemmas.Str.Pattern.{NoCharPasses-char, drop_at_char}
 use Rattle.console.specs.Syntax.{pieces}
-use Rattle.console.specs.Private.Parts.{to_come}
+use Rattle.console.specs.Private.Parts.{pieces_to_come}
 
 no_mark : (c : ℕ) (bs : List ℕ) → c < 128 → NoCharPasses (λ d. eqb d c) bs → All (λ b. eqb b c ≡ false) bs
 no_mark c bs ascii none = All-from_get_or (λ b. eqb b c ≡ false) bs 0 (λ i within. ne_eqb _ c (NoCharPasses-char c bs i none ascii within))
@@ -26,7 +26,7 @@ pieces_at_mark c w x more rest ascii (Some q) finds is =
     let whole = sym (take-append-drop q.0 w) ∙ ap (λ ys. take q.0 w ++ ys) (drop_at_char c w q.0 q.1 finds.1 ascii) in
     rw (cut.0, cut.1, cut.2) (ap (pieces c) whole ∙ slice_split_at (λ b. eqb b c) (take q.0 w) c (drop q.1 w) (no_mark c (take q.0 w) ascii finds.0) (eq-eqb c c refl))
 
-pub next_piece : (s t : Split ℕ) (r : Option (Bor (List ℕ))) → split_pattern s < 128 → split_steps FindsChar (λ c d. d ≡ c) s r t → YieldsFirstRef (λ (ps : List (List ℕ)). ps) (to_come s) r (to_come t)
+pub next_piece : (s t : Split ℕ) (r : Option (Bor (List ℕ))) → split_pattern s < 128 → split_steps FindsChar (λ c d. d ≡ c) s r t → YieldsFirstRef (λ (ps : List (List ℕ)). ps) (pieces_to_come s) r (pieces_to_come t)
 next_piece s t None ascii step = (rw (← step.0) refl, rw (step.1, ← step.0) refl)
 next_piece s t (Some x) ascii step =
     let parted = step.1.1.1 in

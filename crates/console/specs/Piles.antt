@@ -12,6 +12,7 @@ use Rattle.console.specs.declared.piles.Pile.{Pile, Idle, Overload, TimeTable, N
 
 -- Below, a and b say where a pile within another lies.
 
+-- the word of a pile
 abbrev pub pile_word : Pile → List ℕ
 pile_word Idle = codes "idle"
 pile_word Overload = codes "overload"
@@ -22,6 +23,7 @@ pile_word (Turned' a p) = codes "turned(" ++ (pile_word p ++ codes ")")
 pile_word (Both' a p b q) =
     codes "both(" ++ (pile_word p ++ (codes "," ++ (pile_word q ++ codes ")")))
 
+-- what a pile makes of a table
 abbrev pub pile_meaning : Pile → Meaning
 pile_meaning Idle = idle
 pile_meaning Overload = overload
@@ -37,6 +39,7 @@ levels (Turned' a p) = levels p + 1
 levels (Both' a p b q) = max (levels p) (levels q) + 1
 levels p = 1
 
+-- the most levels of a pile that is read
 abbrev pub max_levels : ℕ
 max_levels = 500
 

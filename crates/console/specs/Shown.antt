@@ -10,6 +10,7 @@ use Rattle.tree.specs.declared.Search.TheVariants.{Best, None, Spent}
 use Rattle.console.specs.declared.answers.Answer.{Answer}
 use Rattle.console.specs.declared.answers.Answer.TheVariants.{Overflow, Applied, Done, Admitted, Tightened, Windows, Solved, Refused, Unknown}
 
+-- a lot, as `est,lct,p,c`
 abbrev pub shown_cell : Lot → List ℕ
 shown_cell x =
     decimal x.est ++ (codes "," ++ (decimal x.lct ++ (codes "," ++ (decimal x.p ++ (codes "," ++ decimal x.c)))))
@@ -25,6 +26,7 @@ shown_search (Best end nodes) starts =
 shown_search (None nodes) starts = codes "none " ++ decimal nodes
 shown_search (Spent nodes) starts = codes "spent " ++ decimal nodes
 
+-- the line of an answer
 abbrev pub shown_answer : Answer → List ℕ
 shown_answer (Overflow left points) = decimal left ++ (codes " " ++ decimal points)
 shown_answer (Applied verdict lots) = shown_verdict verdict ++ shown_cells (vec_items lots)

@@ -25,6 +25,7 @@ pub record NumberOf (bits : ℕ) (w : List ℕ) (n : ℕ) : Type 0 where
   pub fits : n < 2 ^ bits
   pub value : n ≡ number_after 0 w
 
+-- a number of a line has 16 bits
 abbrev pub Number : List ℕ → ℕ → Type 0
 Number = NumberOf 16
 

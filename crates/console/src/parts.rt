@@ -18,11 +18,11 @@ impl<'a> Model for Parts<'a> {
     ghost use Rattle.std.specs.Prelude.{ℕ, List, IsTrue};
     ghost use Rattle.std.specs.Char.{is_ascii};
     ghost use Rattle.std.specs.Str.Iter.{split_pattern};
-    ghost use Rattle.console.specs.Private.Parts.{to_come};
+    ghost use Rattle.console.specs.Private.Parts.{pieces_to_come};
 
     ghost Value = { List (List ℕ) };
 
-    ghost view = { λ s. to_come s.left };
+    ghost view = { λ s. pieces_to_come s.left };
 
     ghost invariant = { λ s. IsTrue (is_ascii (split_pattern s.left)) };
 }

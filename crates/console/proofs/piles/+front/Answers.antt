@@ -1,6 +1,5 @@
-use Rattle.std.proofs.Common.{◌≡◌, ◌++◌, codes, arith, rules}
+use Rattle.std.proofs.Common.{codes, arith}
 use Rattle.console.proofs.PileWords.{stripped, handed_on, or_unknown, no_level, nothing_turned, turned_unclosed, no_first, both_uncut, no_second, both_unclosed, alone}
-use Rattle.console.specs.Private.Front.{Lacks}
 use Rattle.console.proofs.piles.+front.Goals as goal
 
 pub returns-then-levels-eq0 : goal.returns-then-levels-eq0
