@@ -1,4 +1,5 @@
-// Measures what the calls cost: an overflow, an application of a rule, a tighten, and a node of a search.
+//! Measures what the calls cost: an overflow, an application of a rule, a tighten, and a node of a
+//! search.
 #![tactic(auto)]
 
 use anyhow::anyhow;

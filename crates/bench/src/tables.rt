@@ -1,4 +1,4 @@
-// The tables that are measured.
+//! The tables that are measured.
 ghost use Rattle.std.specs.Prelude.{◌≤◌};
 
 use lots::{HORIZON, Lot, MAX_LOTS};

@@ -73,8 +73,8 @@ fn cells(heap: Global, words: Parts<'_>) -> Result<Vec<Lot>, Fault>
     Ok(lots)
 }
 
-/// The capacity, in trays, and the lots of the table that the words left write, as `C CELL..`, or why
-/// they are not read, which is no refusal.
+/// The capacity, in trays, and the lots of the table that the words left write, as `C CELL..`, or
+/// why they are not read, which is no refusal.
 pub fn table(heap: Global, mut words: Parts<'_>) -> Result<(u16, Vec<Lot>), Fault>
     ensures answer { MatchResult result
         (λ t. TableForm words.entry t.0 t.1.items)

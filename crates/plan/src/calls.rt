@@ -92,7 +92,8 @@ impl Plan {
     /// The trail is lent for the nodes that are unvisited, and comes back blank, unless refused.
     ///
     /// Refused by the first cause that applies: with 10 where the budget is 0, 11 where the trail
-    /// has fewer than n × n + n cells for n lots, 12 where there are fewer than n places for starts.
+    /// has fewer than n × n + n cells for n lots, 12 where there are fewer than n places for
+    /// starts.
     pub fn solve<R: Rule>(
         &self,
         rule: &R,

@@ -1,4 +1,5 @@
-// Tries random tables: what the overflow, the rules, tighten and solve say of them, beside every start of every lot.
+//! Tries random tables: what the overflow, the rules, tighten and solve say of them, beside every
+//! start of every lot.
 #![tactic(auto)]
 
 use anyhow::anyhow;
@@ -22,7 +23,8 @@ mod visits;
 
 // How many tables are tried.
 const TABLES: usize = 2_100;
-// The generator's seed and stream are those of its published demonstration, so its first words are known.
+// The generator's seed and stream are those of its published demonstration, so its first words are
+// known.
 const SEED: u64 = 42;
 
 const STREAM: u64 = 54;

@@ -1,4 +1,5 @@
-// What the overflow, the rules and tighten are defined to be, computed minute by minute and lot by lot.
+//! What the overflow, the rules and tighten are defined to be, computed minute by minute and lot by
+//! lot.
 
 use crate::schedules::{earliest_end, latest_start};
 use lots::{HORIZON, Lot};
@@ -113,7 +114,8 @@ fn is_overfull(capacity: u16, lots: &[Lot], minute: u16) -> bool {
     trays(lots, |lot| is_fixed_at(lot, minute)) > u64::from(capacity)
 }
 
-// The minute after the last at which the lot, started at its est, does not fit beside the fixed parts of the others.
+// The minute after the last at which the lot, started at its est, does not fit beside the fixed
+// parts of the others.
 fn time_table_bound(capacity: u16, lots: &[Lot], number: usize, lot: &Lot) -> u16 {
     let mut bound = 0;
     for minute in lot.est..lot.est.saturating_add(lot.p) {
@@ -264,7 +266,8 @@ pub fn slack(lots: &[Lot]) -> u32 {
     })
 }
 
-/// The lots that are left once nothing changes any more, none where the rule is dead; and the number of applications.
+/// The lots that are left once nothing changes any more, none where the rule is dead; and the
+/// number of applications.
 pub fn settled<R: Defined>(
     heap: Global,
     rule: &R,

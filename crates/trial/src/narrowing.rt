@@ -1,4 +1,4 @@
-// What an application of a rule leaves of a table, and what tighten leaves of a plan.
+//! What an application of a rule leaves of a table, and what tighten leaves of a plan.
 
 use crate::naive::{Defined, settled, slack};
 use crate::schedules::{is_schedule, schedules};

@@ -1,4 +1,4 @@
-// Schedules, found by trying every start of every lot.
+//! Schedules, found by trying every start of every lot.
 ghost use Rattle.std.specs.Prelude.{◌≤◌};
 
 use crate::tables::MOST_LOTS;
@@ -71,8 +71,8 @@ pub fn ways(lots: &[Lot]) -> u64 {
         .fold(1u64, |ways, lot| ways.saturating_mul(choices(lot)))
 }
 
-// The starts that one of the ways gives. The start of the first lot changes first, and so the order of two ways is that
-// of their starts, whatever the windows are.
+// The starts that one of the ways gives. The start of the first lot changes first, and so the order
+// of two ways is that of their starts, whatever the windows are.
 fn starts_of(lots: &[Lot], way: u64) -> Starts {
     let mut starts = [0; MOST_LOTS];
     let mut rest = way;

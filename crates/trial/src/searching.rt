@@ -1,4 +1,4 @@
-// What solve answers, and what it leaves of the memory that it is lent.
+//! What solve answers, and what it leaves of the memory that it is lent.
 
 use crate::naive::Defined;
 use crate::narrowing::plan_of;
@@ -13,7 +13,8 @@ use std::alloc::{AllocError, Global};
 use std::io;
 use tree::Search;
 
-// A search that visits more nodes is tried with only the least and the greatest budget below its count.
+// A search that visits more nodes is tried with only the least and the greatest budget below its
+// count.
 const MOST_BUDGETS: u32 = 60;
 // What each lent cell holds before a search.
 const OLD_LOT: Lot = Lot {
@@ -159,7 +160,8 @@ fn compare_spent(
     )
 }
 
-// Compares a search within a budget that is just enough, or more, with the whole one, for which just enough was lent.
+// Compares a search within a budget that is just enough, or more, with the whole one, for which
+// just enough was lent.
 fn compare_enough(
     tally: &mut Tally<'_>,
     case: Case<'_>,

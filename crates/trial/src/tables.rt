@@ -1,4 +1,4 @@
-// The tables that are tried.
+//! The tables that are tried.
 ghost use Rattle.std.specs.Prelude.{◌≤◌};
 
 use crate::schedules::{Starts, schedules};
@@ -16,7 +16,8 @@ const MOST_CAPACITY: u16 = 4;
 const MOST_RUN: u16 = 5;
 // The most minutes that a window is longer than its run.
 const MOST_ROOM: u16 = 5;
-// The most minutes that a window begins, or at the end of the week ends, away from where the table is.
+// The most minutes that a window begins, or at the end of the week ends, away from where the table
+// is.
 const MOST_AWAY: u16 = 7;
 
 const MIDWEEK: u16 = HORIZON / 2;

@@ -1,4 +1,4 @@
-// How much was compared, and what differed.
+//! How much was compared, and what differed.
 
 use crate::tables::Sample;
 use std::io;

@@ -1,4 +1,4 @@
-// The tree that a search is defined to visit, node by node.
+//! The tree that a search is defined to visit, node by node.
 
 use crate::naive::{Defined, settled};
 use crate::schedules::{earliest_end, end, is_schedule, latest_start, ways};
