@@ -56,7 +56,7 @@ log=$(mktemp)
 trap 'rm -f "$log"' EXIT
 [ -e "out/$name.stamp" ] || say 'to be proved first, which takes some minutes on a fresh machine'
 SECONDS=0
-# A run on no input proves the program and leaves it in out/. With nothing changed since, nothing is proved.
+# Run on no input, rt proves the program and leaves it in out/. With nothing changed since, nothing is proved.
 if ! rt run 2>&1 >/dev/null </dev/null | tee "$log" | show_progress; then
     tail -n 20 "$log" >&2
     say 'not proved, so not run'

@@ -10,6 +10,6 @@ pub mod Looks
 pub mod Cells
 pub mod Stacks
 pub mod Visits
-pub mod Runs
+pub mod Explorations
 pub mod Tells
 pub mod Means

@@ -110,7 +110,7 @@ fn is_fixed_at(lot: &Lot, minute: u16) -> bool {
 }
 
 // Whether the fixed parts take more trays at a minute than there are.
-fn is_overfull(capacity: u16, lots: &[Lot], minute: u16) -> bool {
+fn passes_capacity(capacity: u16, lots: &[Lot], minute: u16) -> bool {
     trays(lots, |lot| is_fixed_at(lot, minute)) > u64::from(capacity)
 }
 
@@ -133,7 +133,7 @@ fn time_table_bound(capacity: u16, lots: &[Lot], number: usize, lot: &Lot) -> u1
 
 impl Defined for TimeTable {
     fn defined(&self, heap: Global, capacity: u16, lots: &[Lot]) -> Left {
-        if (earliest(lots)..latest(lots)).any(|minute| is_overfull(capacity, lots, minute)) {
+        if (earliest(lots)..latest(lots)).any(|minute| passes_capacity(capacity, lots, minute)) {
             return Ok(None);
         }
         let mut bounds = Vec::new(heap);

@@ -2,7 +2,7 @@ use Rattle.std.proofs.Common.{length, sym, ap, ◌∙◌, subst, arith}
 use Rattle.tree.specs.Private.Held.{best_known}
 use Rattle.tree.specs.Private.Stack.{unvisited, Advances}
 use Rattle.tree.specs.declared.trail.Trail.{Trail}
-use Rattle.tree.proofs.Runs.{first_node, goes_on, stops}
+use Rattle.tree.proofs.Explorations.{first_node, goes_on, stops}
 use Rattle.tree.proofs.explore.explore.Goals as goal
 use Rattle.tree.proofs.explore.explore.Goals.{else-loop-nodes-test, then-loop-nodes-test+in_default}
 

@@ -1,7 +1,7 @@
 use Rattle.std.proofs.Common.{◌≡◌, ◌-◌, ◌≤◌, length}
 use Rattle.tree.specs.Private.Held.{best_known}
 use Rattle.tree.specs.Private.Stack.{unvisited, Standing}
-use Rattle.tree.proofs.Runs.{Searching}
+use Rattle.tree.proofs.Explorations.{Searching}
 use Rattle.tree.proofs.explore.explore.Given as goal
 
 abbrev pub invariant-loop-nodes : goal.invariant-loop-nodes
