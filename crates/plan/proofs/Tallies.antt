@@ -5,7 +5,7 @@ use Rattle.lots.specs.Schedules.{Schedule, BestSchedule}
 use Rattle.lots.specs.declared.Lot.{Lot}
 use Rattle.rule.specs.Meanings.{SameWork, Keeps, Hopeless}
 use Rattle.rule.proofs.Chains.{Kept, kept_back, settled_kept}
-use Rattle.rule.specs.Laws.Schedules.{end_same}
+use Rattle.rule.proofs.Tables.{end_same}
 use Rattle.rule.specs.Laws.Tables.{same_work_trans}
 use Rattle.rule.proofs.Tables.{same_work_sym}
 use Rattle.plan.specs.Tables.{SameSchedules, empty, with_lot, with_lot_between}

@@ -7,7 +7,7 @@ use Rattle.rule.specs.Meanings.{dead, to, IsVerdictOn}
 use Rattle.rule.specs.Raised.{later_lot, later_lots, all_fit, raise}
 use Rattle.rule.specs.declared.Verdict.{Verdict}
 use Rattle.rule.specs.declared.Verdict.TheVariants.{Still, Moved, Dead}
-use Rattle.rule.specs.Laws.Tables.{lot_path}
+use Rattle.lots.proofs.Tables.{lot_path}
 
 -- whether a table is another one so far
 abbrev pub Changed : Verdict → List Lot → List Lot → Type 0

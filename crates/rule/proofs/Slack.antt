@@ -8,7 +8,7 @@ use Rattle.lots.specs.declared.Lot.{Lot}
 use Rattle.rule.specs.Meanings.{SameWork, Narrower, Meaning, to, Sound}
 use Rattle.rule.specs.Settled.{slack}
 use Rattle.rule.proofs.Applications.{gives_at}
-use Rattle.rule.specs.Laws.Tables.{lot_path}
+use Rattle.lots.proofs.Tables.{lot_path}
 
 slack_le : (T U : List Lot) → SameWork T U → Narrower T U → slack U ≤ slack T
 slack_le [] [] w n = omega arith

@@ -10,7 +10,7 @@ use Rattle.rule.specs.Turned.{turn, turn_outcome, turned, Alike}
 use Rattle.rule.specs.declared.Verdict.{Verdict}
 use Rattle.rule.specs.declared.Verdict.TheVariants.{Still, Moved, Dead}
 use Rattle.rule.specs.Private.Week.{InWeek}
-use Rattle.rule.specs.Laws.Tables.{lot_path}
+use Rattle.lots.proofs.Tables.{lot_path}
 use Rattle.rule.specs.Laws.Turns.{lawful_week, turn_lawful}
 use Rattle.rule.proofs.Applications.{gives_at}
 

@@ -3,13 +3,17 @@ use Rattle.std.specs.Prelude.{◌≡◌, ℕ, suc, ◌+◌, ◌<◌, ◌≤◌, 
 use Rattle.std.proofs.Common.{sym, ap, ◌∙◌, zero-add, add-zero, arith}
 use Rattle.std.proofs.lemmas.List.{append-nil, take_more, length-take-le}
 use Rattle.std.proofs.lemmas.Bool.{cond_both}
+use Rattle.std.specs.List.{AllByRecursion}
 use Rattle.lots.specs.Tables.{lot_at, LawfulLot, Lawful}
 use Rattle.lots.specs.declared.Lot.{Lot}
 use Rattle.elastic.proofs.Marked.{cond_append}
 use Rattle.rules.specs.Chosen.{chosen_lots}
-use Rattle.rules.specs.Laws.ChosenLots.{chosen_each}
 
 module _ (test : ℕ → Lot → Bool) where
+  pub chosen_each : (P : Lot → Type 0) (k : ℕ) (T : List Lot) → AllByRecursion P T → AllByRecursion P (chosen_lots test k T)
+  chosen_each P k [] h = tt
+  chosen_each P k (x ∷ xs) h = cond_both (test k x) (x ∷ chosen_lots test (suc k) xs) (chosen_lots test (suc k) xs) (AllByRecursion P) (λ e. (h.0, chosen_each P (suc k) xs h.1)) (λ e. chosen_each P (suc k) xs h.1)
+
   chosen_few : (k : ℕ) (T : List Lot) → length (chosen_lots test k T) ≤ length T
   chosen_few k [] = omega arith
   chosen_few k (x ∷ xs) = cond_both (test k x) (x ∷ chosen_lots test (suc k) xs) (chosen_lots test (suc k) xs) (λ ys. length ys ≤ suc (length xs)) (λ e. omega (arith, chosen_few (suc k) xs)) (λ e. omega (arith, chosen_few (suc k) xs))
@@ -19,7 +23,7 @@ module _ (test : ℕ → Lot → Bool) where
     some_trays = ok.some_trays;
     few_trays = ok.few_trays;
     few_lots = omega (arith, chosen_few 0 T, ok.few_lots);
-    each = chosen_each test (LawfulLot C) 0 T ok.each;
+    each = chosen_each (LawfulLot C) 0 T ok.each;
   }
 
   -- the loop that gathers, one lot more

@@ -6,7 +6,7 @@ use Rattle.lots.specs.Limits.{horizon}
 use Rattle.lots.specs.Tables.{lot_at, LawfulLot, Lawful}
 use Rattle.lots.specs.declared.Lot.{Lot}
 use Rattle.rules.specs.NotFirst.{is_in_cut, cut, least_ect}
-use Rattle.rules.specs.Laws.ChosenLots.{chosen_each}
+use Rattle.rules.proofs.ChosenLots.{chosen_each}
 
 -- L is the least f of a list, and 0 without lots
 module _ (f : Lot → ℕ) (L : List Lot → ℕ) (none : L [] ≡ 0) (one : (x : Lot) → L (x ∷ []) ≡ f x) (more : (x y : Lot) (ys : List Lot) → L (x ∷ (y ∷ ys)) ≡ min (f x) (L (y ∷ ys))) where

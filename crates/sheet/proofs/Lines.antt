@@ -5,7 +5,7 @@ use Rattle.std.specs.Fmt.{decimal}
 use Rattle.std.specs.List.{AllByRecursion}
 use Rattle.std.proofs.lemmas.Fmt.{digits_decimal, decimal_injective, length-decimal-le}
 use Rattle.lots.specs.Texts.{numbers}
-use Rattle.rule.specs.Laws.Tables.{lot_path}
+use Rattle.lots.proofs.Tables.{lot_path}
 use Rattle.sheet.specs.Lines.{newline, max_number, max_budget, Line, machine, name, lot, narrow, tighten, solve, written_line, Bounded, Printable, BeginsWithLine}
 use Rattle.sheet.specs.Private.Words.{Stops, StopsAfter}
 use Rattle.sheet.proofs.Numerals.{digits}

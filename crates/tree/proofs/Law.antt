@@ -7,7 +7,7 @@ use Rattle.lots.specs.Tables.{Lawful}
 use Rattle.lots.specs.declared.Lot.{Lot}
 use Rattle.rule.specs.Meanings.{Meaning, Outcome, dead, to, Sound}
 use Rattle.rule.proofs.Chains.{narrower_keeps}
-use Rattle.rule.specs.Laws.Schedules.{end_same}
+use Rattle.rule.proofs.Tables.{end_same}
 use Rattle.tree.specs.Tree.{ways, BestKnown, known, EndsBy, Leaves, Fixed, earliest_starts, Branch, left, right, Closes, barren, above_capacity, found, Visit, leaf, fork, last_known, Falling, Optimal, TreeLaw}
 use Rattle.tree.proofs.Ways.{ways_some, ways_fewer, to_the_end, left_lawful, right_lawful, left_work, right_work, left_narrower, right_narrower, ways_parts, parts, fixed_placed, fixed_only, fixed_or_branch}
 use Rattle.tree.proofs.Nodes.{Below, below_trans, ends_by_or_not, Remains, leaves_remains, leaves_dead}

@@ -8,7 +8,7 @@ use Rattle.lots.specs.Limits.{horizon, max_capacity, max_lots}
 use Rattle.lots.specs.Tables.{ect, LawfulLot, Lawful}
 use Rattle.lots.specs.declared.Lot.{Lot}
 use Rattle.rule.specs.Meanings.{Meaning, Outcome, dead, to, Applied}
-use Rattle.rule.specs.Laws.Tables.{lot_path}
+use Rattle.lots.proofs.Tables.{lot_path}
 use Rattle.rule.specs.Settled.{Moves, none, more, Settled}
 use Rattle.rule.specs.declared.Verdict.{Verdict}
 use Rattle.rule.specs.declared.Verdict.TheVariants.{Still, Moved, Dead}

@@ -1,6 +1,6 @@
 -- Schedules of tables of the same work.
-use Rattle.std.proofs.Common.{◌≡◌, ℕ, ◌+◌, ◌≤◌, max, if◌then◌else◌, List, [], ◌∷◌, sym, refl, subst, ap₂}
-use Rattle.lots.specs.Schedules.{spans, load, end, Placed, Schedule}
+use Rattle.std.proofs.Common.{◌≡◌, ℕ, ◌+◌, ◌≤◌, if◌then◌else◌, List, [], ◌∷◌, sym, refl, subst, ap₂}
+use Rattle.lots.specs.Schedules.{spans, load, Placed, Schedule}
 use Rattle.lots.specs.declared.Lot.{Lot}
 use Rattle.rule.specs.Meanings.{SameWork}
 
@@ -17,11 +17,3 @@ load_same t (x ∷ xs) (y ∷ ys) (s ∷ ss) w =
 pub schedule_same : (C : ℕ) (T U : List Lot) (ss : List ℕ) → SameWork T U → Placed U ss → Schedule C T ss →
     Schedule C U ss
 schedule_same C T U ss w p s = record { placed = p; within = λ t. subst (λ n. n ≤ C) (sym (load_same t T U ss w)) (s.within t) }
-
--- the end, too, is of the work alone
-pub end_same : (T U : List Lot) (ss : List ℕ) → SameWork T U → end U ss ≡ end T ss
-end_same [] [] ss w = refl
-end_same [] (y ∷ ys) ss w = absurd w
-end_same (x ∷ xs) [] ss w = absurd w
-end_same (x ∷ xs) (y ∷ ys) [] w = refl
-end_same (x ∷ xs) (y ∷ ys) (s ∷ ss) w = ap₂ (λ p n. max (s + p) n) w.0.0 (end_same xs ys ss w.1)

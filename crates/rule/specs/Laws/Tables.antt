@@ -1,5 +1,5 @@
 -- What tables of the same work, and narrower ones, are to each other; so idle is sound.
-use Rattle.std.specs.Prelude.{◌≡◌, List, [], ◌∷◌, refl}
+use Rattle.std.specs.Prelude.{List, [], ◌∷◌, refl}
 use Rattle.std.proofs.Common.{◌∙◌, arith}
 use Rattle.std.specs.List.{AllZip}
 use Rattle.lots.specs.declared.Lot.{Lot}
@@ -30,9 +30,6 @@ same_work_trans T U V p q = each_trans _ (λ x y z a b. (b.0 ∙ a.0, b.1 ∙ a.
 
 pub narrower_trans : (T U V : List Lot) → Narrower T U → Narrower U V → Narrower T V
 narrower_trans T U V p q = each_trans _ (λ x y z a b. omega arith) T U V p q
-
-pub lot_path : (x y : Lot) → x.est ≡ y.est → x.lct ≡ y.lct → x.p ≡ y.p → x.c ≡ y.c → x ≡ y
-lot_path x y e l p c = λ i. record { est = e i; lct = l i; p = p i; c = c i }
 
 pub idle_sound : Sound idle
 idle_sound = record {

@@ -1,8 +1,6 @@
 -- What holds of a table holds of some of its lots.
 use Rattle.std.specs.Prelude.{ℕ, suc, ◌+◌, ◌≤◌, Bool, true, false, if◌then◌else◌, List, [], ◌∷◌}
 use Rattle.std.proofs.Common.{arith}
-use Rattle.std.specs.List.{AllByRecursion}
-use Rattle.std.proofs.lemmas.Bool.{cond_both}
 use Rattle.lots.specs.Schedules.{spans, load, Placed, Schedule}
 use Rattle.lots.specs.declared.Lot.{Lot}
 use Rattle.rules.specs.Chosen.{chosen_lots}
@@ -38,7 +36,3 @@ module _ (test : ℕ → Lot → Bool) where
     placed = chosen_placed 0 T ss s.placed;
     within = λ t. omega (arith, chosen_load t 0 T ss s.placed, s.within t);
   }
-
-  pub chosen_each : (P : Lot → Type 0) (k : ℕ) (T : List Lot) → AllByRecursion P T → AllByRecursion P (chosen_lots test k T)
-  chosen_each P k [] h = tt
-  chosen_each P k (x ∷ xs) h = cond_both (test k x) (x ∷ chosen_lots test (suc k) xs) (chosen_lots test (suc k) xs) (AllByRecursion P) (λ e. (h.0, chosen_each P (suc k) xs h.1)) (λ e. chosen_each P (suc k) xs h.1)
