@@ -50,6 +50,7 @@ impl<'a> Model for Desk<'a> {
 }
 
 impl<'a> Desk<'a> {
+    /// The desk at which the first line is due, with a new plan.
     pub fn new() -> Desk<'a>
         ensures answer { result ≡ new_desk }
     {

@@ -26,12 +26,14 @@ impl<'a> Model for Reader<'a> {
 }
 
 impl<'a> Reader<'a> {
+    /// All of the sheet, still to be read.
     pub fn new(sheet: &'a [u8]) -> Reader<'a>
         ensures answer { result ≡ sheet.now }
     {
         Reader { sheet, at: 0 }
     }
 
+    /// Whether nothing is left to be read.
     pub fn is_at_end(&self) -> bool
         ensures answer { IsTrue result ↔ (self.now ≡ []) }
     {
