@@ -1,6 +1,7 @@
 pub mod EndRows
 pub mod Least
 pub mod Loads
+pub mod Greatest
 pub mod Raised
 pub mod Bounds
 pub mod GrowingCuts

@@ -1,16 +1,21 @@
 //! The rule time-table: a lot starts after the minutes at which it does not fit beside the fixed
 //! parts of the others.
-ghost use Rattle.std.specs.Prelude.{◌≡◌, ℕ, ◌<◌, length, slice_index};
+ghost use Rattle.std.specs.Prelude.{◌≡◌, ℕ, ◌+◌, ◌-◌, ◌<◌, ◌≤◌, length, nat_lt, replicate, slice_index};
 ghost use Rattle.lots.specs.Limits.{horizon, max_capacity};
 ghost use Rattle.lots.specs.Tables.{ect, LawfulLot};
 ghost use Rattle.rules.specs.TimeTable.{fixed_trays, fixed_load, some_passes, after_last, bound_of, time_table};
 ghost use Rattle.rules.specs.Laws.TimeTables.{time_table_sound};
+ghost use Rattle.rules.specs.Private.FixedParts.{begun_at, ended_at, greatest_below};
 
 use lots::{HORIZON, Lot, MAX_LOTS, Refusal, Table};
 use rule::{Rule, Verdict, raise};
+use std::ops::Range;
 
 // How many minutes the week has.
 const MINUTES: usize = HORIZON as usize;
+
+// How many minutes there are at which a fixed part may end: the one after the week is the last.
+const END_MINUTES: usize = MINUTES + 1;
 
 // The trays that the lot holds at a minute, whenever it starts.
 fn fixed_at(lot: Lot, minute: u32) -> u16
@@ -23,53 +28,102 @@ fn fixed_at(lot: Lot, minute: u32) -> u16
     }
 }
 
+// Enters where the fixed parts of a table begin and end: at each minute, the trays of those that
+// begin there and of those that end there. Outside the minutes of the answer there is none.
+fn enter(table: Table, begun: &mut [u16; MINUTES], ended: &mut [u16; END_MINUTES]) -> Range<usize>
+    requires begun_blank { begun.old ≡ replicate MINUTES 0 }
+    requires ended_blank { ended.old ≡ replicate END_MINUTES 0 }
+    ensures begun { (t : ℕ) → t < MINUTES
+        → slice_index begun.new t ≡ begun_at table.entry.lots.now t }
+    ensures ended { (t : ℕ) → t < END_MINUTES
+        → slice_index ended.new t ≡ ended_at table.entry.lots.now t }
+    ensures before { (t : ℕ) → t < result.start → fixed_load table.entry.lots.now t ≡ 0 }
+    ensures after { (t : ℕ) → result.end ≤ t → fixed_load table.entry.lots.now t ≡ 0 }
+    ensures in_week { (result.start ≤ MINUTES) × (result.end ≤ MINUTES) }
+{
+    let mut first = MINUTES;
+    let mut last = 0;
+    for lot in table.lots {
+        let start = usize::from(lot.lst());
+        let end = lot.ect() as usize;
+        // The lst of a lot with no fixed part may lie past its ect.
+        if start < end {
+            begun[start] += lot.c;
+            ended[end] += lot.c;
+            first = first.min(start);
+            last = last.max(end);
+        }
+    }
+    first..last
+}
+
 // The trays that the fixed parts of all lots of a table hold, one number for each minute of the
 // week.
 #[derive(Drop)]
 struct Loads<'a> {
     table: Table<'a>,
-    by_minute: [u16; MINUTES],
-    ghost loaded: { (t : ℕ) → t < horizon → slice_index by_minute t ≡ fixed_load table.lots.now t },
+    by_minute: &'a [u16; MINUTES],
+    greatest: u16,
+    ghost loaded: { (t : ℕ) → t < horizon
+        → slice_index by_minute.now t ≡ fixed_load table.lots.now t },
+    ghost is_greatest: { greatest ≡ greatest_below (fixed_load table.lots.now) horizon },
 }
 
 impl<'a> Loads<'a> {
     ghost use Rattle.rules.specs.Private.Loads.{is_blocked_under};
 
-    // The loads of a table.
-    fn of(table: Table<'a>) -> Loads<'a>
+    // The loads of a table, in an array of zeros that is lent: over the minutes, the sum of what
+    // begins at each less what ends there.
+    fn of(table: Table<'a>, by_minute: &'a mut [u16; MINUTES]) -> Loads<'a>
+        requires blank { by_minute.old ≡ replicate MINUTES 0 }
         ensures answer { result.table ≡ table.entry }
     {
-        let mut by_minute = [0; MINUTES];
-        for lot in table.lots {
-            // By number, since the lst of a lot with no fixed part may lie past its ect.
-            for minute in u32::from(lot.lst())..lot.ect() {
-                by_minute[minute as usize] += lot.c;
-            }
+        let mut ended = [0; END_MINUTES];
+        let minutes = enter(table, by_minute, &mut ended);
+        let mut load = 0;
+        let mut greatest = 0;
+        for minute in minutes.start..minutes.end {
+            load = load + by_minute[minute] - ended[minute];
+            by_minute[minute] = load;
+            greatest = greatest.max(load);
         }
-        Loads { table, by_minute }
+        Loads {
+            table,
+            by_minute,
+            greatest,
+        }
     }
 
     // Whether the load passes the capacity at some minute.
     fn some_passes(&self) -> bool
         ensures answer { result ≡ some_passes self.now.table.capacity self.now.table.lots.now }
     {
-        self.by_minute
-            .iter()
-            .any(|load| *load > self.table.capacity)
+        self.greatest > self.table.capacity
+    }
+
+    // Whether the lot, where it runs at a minute, does not fit there beside the fixed parts of the
+    // others.
+    fn is_blocked(&self, lot: Lot, minute: u32) -> bool
+        requires has_trays { lot.c ≤ self.now.table.capacity }
+        requires in_week { minute < horizon }
+        ensures answer { result ≡ nat_lt self.now.table.capacity
+            (lot.c + slice_index self.now.by_minute.now minute - fixed_trays lot minute) }
+    {
+        let load = self.by_minute[minute as usize];
+        let room = self.table.capacity - lot.c;
+        // The own fixed part only makes more room, so most minutes are told by the load alone.
+        load > room && load > room + fixed_at(lot, minute)
     }
 
     // The minute after the last at which a lot of the table, started at its est, does not fit
     // beside the fixed parts of the others; 0 where there is none.
     fn bound(&self, lot: Lot) -> u16
-        requires lawful { LawfulLot max_capacity lot }
+        requires lawful { LawfulLot self.now.table.capacity lot }
         ensures answer { result ≡ after_last (is_blocked_under self.now lot) (ect lot) }
     {
         (u32::from(lot.est)..lot.ect())
             .rev()
-            .find(|minute| {
-                lot.c + self.by_minute[*minute as usize] - fixed_at(lot, *minute)
-                    > self.table.capacity
-            })
+            .find(|minute| self.is_blocked(lot, *minute))
             .map_or(0, |minute| (minute + 1) as u16)
     }
 
@@ -101,7 +155,8 @@ impl Rule for TimeTable {
     #[inline(never)]
     fn apply(&self, capacity: u16, lots: &mut [Lot]) -> Result<Verdict, Refusal> {
         let table = Table::new(capacity, lots)?;
-        let loads = Loads::of(table);
+        let mut by_minute = [0; MINUTES];
+        let loads = Loads::of(table, &mut by_minute);
         if loads.some_passes() {
             return Ok(Verdict::Dead);
         }
@@ -130,6 +185,28 @@ mod tests {
         let mut lots = [Lot::new(0, 1, 1, 1); 2];
         assert_eq!(rt; TimeTable.apply(1, &mut lots), Ok(Verdict::Dead));
         assert_eq!(rt; lots, [Lot::new(0, 1, 1, 1); 2]);
+    }
+
+    #[test]
+    fn fixed_parts_may_pass_the_capacity_in_the_last_minute(rt: HostRuntime) {
+        let lots_at_the_end = [
+            Lot::new(HORIZON - 2, HORIZON, 2, 1),
+            Lot::new(HORIZON - 1, HORIZON, 1, 1),
+        ];
+        let mut lots = lots_at_the_end;
+        assert_eq!(rt; TimeTable.apply(1, &mut lots), Ok(Verdict::Dead));
+        assert_eq!(rt; lots, lots_at_the_end);
+        assert_eq!(rt; TimeTable.apply(2, &mut lots), Ok(Verdict::Still));
+    }
+
+    #[test]
+    fn fixed_parts_that_touch_just_fit(rt: HostRuntime) {
+        let first = Lot::new(0, 3, 3, 2);
+        let second = Lot::new(3, 5, 2, 2);
+        let mut lots = [first, second, Lot::new(0, 20, 6, 1)];
+        assert_eq!(rt; TimeTable.apply(2, &mut lots), Ok(Verdict::Moved));
+        assert_eq!(rt; lots, [first, second, Lot::new(5, 20, 6, 1)]);
+        assert_eq!(rt; TimeTable.apply(2, &mut lots), Ok(Verdict::Still));
     }
 
     #[test]

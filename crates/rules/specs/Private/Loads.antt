@@ -8,4 +8,4 @@ use Rattle.rules.specs.declared.time_table.Loads.{Loads}
 abbrev pub is_blocked_under : Loads → Lot → ℕ → Bool
 is_blocked_under loads x t =
     nat_le x.est t
-    && nat_lt loads.table.capacity (x.c + slice_index loads.by_minute t - fixed_trays x t)
+    && nat_lt loads.table.capacity (x.c + slice_index loads.by_minute.now t - fixed_trays x t)

@@ -4,13 +4,11 @@ use Rattle.std.proofs.iter.runs.Sources.{ranges}
 use Rattle.lots.specs.Limits.{horizon}
 use Rattle.lots.specs.Tables.{ect}
 use Rattle.rules.specs.Private.Loads.{is_blocked_under}
-use Rattle.rules.proofs.Loads.{load_few}
 use Rattle.rules.proofs.Searches.{IsLastBelow, after_last_found}
 use Rattle.rules.proofs.time_table.Loads.bound.Goals as goal
 
 pub find-requires-clause-callable : goal.find-requires-clause-callable
 find-requires-clause-callable c =
-    let few = load_few c.args.self.now in
     let week : ect c.args.lot ≤ horizon = omega (arith, c.requires.lawful.has_time, c.requires.lawful.in_week) in
     grind serving
 

@@ -1,20 +1,16 @@
-use Rattle.std.proofs.Common.{◌≡◌, ℕ, ◌+◌, ◌*◌, ◌<◌, ◌≤◌, min, if◌then◌else◌, length, get_or, take}
-use Rattle.lots.specs.Limits.{horizon, max_capacity, max_lots}
-use Rattle.lots.specs.Schedules.{spans}
-use Rattle.lots.specs.Tables.{ect, lst, LawfulLot}
+use Rattle.std.proofs.Common.{◌≡◌, ℕ, ◌<◌, ◌≤◌, length, get_or}
+use Rattle.lots.specs.Limits.{horizon}
 use Rattle.rules.specs.TimeTable.{fixed_load}
+use Rattle.rules.specs.Private.FixedParts.{begun_at, greatest_below}
+use Rattle.rules.proofs.Loads.{load_before}
 use Rattle.rules.proofs.time_table.Loads.of.Given as goal
-
-abbrev pub invariant-loop-lot : goal.invariant-loop-lot
-invariant-loop-lot l = record {
-  minutes : length l.by_minute ≡ horizon;
-  loaded : (t : ℕ) → t < horizon → get_or l.by_minute t 0 ≡ fixed_load (take l.lot-index l.table.lots.now) t;
-}
 
 abbrev pub invariant-loop-minute : goal.invariant-loop-minute
 invariant-loop-minute l = record {
   minutes : length l.by_minute ≡ horizon;
-  lawful : LawfulLot max_capacity l.lot;
-  few : (t : ℕ) → t < horizon → get_or l.initial.by_minute t 0 ≤ max_capacity * max_lots;
-  added : (t : ℕ) → t < horizon → get_or l.by_minute t 0 ≡ get_or l.initial.by_minute t 0 + (if spans (lst l.lot) (min l.minute (ect l.lot)) t then l.lot.c else 0);
+  week : l.minute ≤ horizon;
+  loaded : (t : ℕ) → t < l.minute → get_or l.by_minute t 0 ≡ fixed_load l.table.lots.now t;
+  begun : (t : ℕ) → l.minute ≤ t → t < horizon → get_or l.by_minute t 0 ≡ begun_at l.table.lots.now t;
+  load : l.load ≡ load_before l.table.lots.now l.minute;
+  greatest : l.greatest ≡ greatest_below (fixed_load l.table.lots.now) l.minute;
 }
