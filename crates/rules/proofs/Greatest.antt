@@ -4,7 +4,7 @@ use Rattle.std.proofs.Common.{inl, inr, sym, ap, ◌∙◌, arith}
 use Rattle.std.proofs.lemmas.Bool.{cases_order}
 use Rattle.std.proofs.lemmas.Bool.Decides.{nat_tests}
 use Rattle.rules.specs.TimeTable.{some_below}
-use Rattle.rules.specs.Private.FixedParts.{greatest_below}
+use Rattle.rules.specs.Private.Changes.{greatest_below}
 
 pub greatest_more : (f : ℕ → ℕ) (n m : ℕ) → m ≡ n + 1 → greatest_below f m ≡ max (f n) (greatest_below f n)
 unfolding greatest_below

@@ -15,7 +15,7 @@ use Rattle.rule.specs.Raised.{raise}
 use Rattle.rule.specs.declared.Verdict.{Verdict}
 use Rattle.rule.specs.declared.Verdict.TheVariants.{Dead}
 use Rattle.rules.specs.TimeTable.{fixed_trays, fixed_load, fixed_load_of_others, some_passes, after_last, bound_of, time_table}
-use Rattle.rules.specs.Private.FixedParts.{trays_begun, trays_ended, begun_at, ended_at}
+use Rattle.rules.specs.Private.Changes.{trays_begun, trays_ended, begun_at, ended_at}
 use Rattle.rules.specs.Private.Loads.{is_blocked_under}
 use Rattle.rules.specs.declared.time_table.Loads.{Loads}
 use Rattle.rules.proofs.Greatest.{some_by_greatest}

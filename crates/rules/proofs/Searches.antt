@@ -1,17 +1,8 @@
 -- What a search of the minutes below a number finds.
 use Rattle.std.specs.Prelude.{◌≡◌, ℕ, zero, suc, ◌+◌, ◌<◌, Bool, true, false, if◌then◌else◌, Option, None, Some, MatchOption, refl}
 use Rattle.std.proofs.Common.{inl, inr, sym, ap₂, subst, ◌∙◌, arith}
-use Rattle.std.proofs.lemmas.Bool.{cases_order, or_left, or_right, cond-true, cond-false}
-use Rattle.rules.specs.TimeTable.{some_below, after_last}
-
-pub some_here : (f : ℕ → Bool) (n t : ℕ) → t < n → f t ≡ true → some_below f n ≡ true
-unfolding some_below
-some_here f zero t h e = absurd (omega arith)
-some_here f (suc n) t h e = elim (cases_order t n) [
-  | inl same ↦ or_left (f n) (some_below f n) (subst (λ k. f k ≡ true) same e)
-  | inr (inl less) ↦ or_right (f n) (some_below f n) (some_here f n t less e)
-  | inr (inr more) ↦ absurd (omega arith)
-]
+use Rattle.std.proofs.lemmas.Bool.{cases_order, cond-true, cond-false}
+use Rattle.rules.specs.TimeTable.{after_last}
 
 after_last_none : (f : ℕ → Bool) (n : ℕ) → ((t : ℕ) → t < n → f t ≡ false) → after_last f n ≡ 0
 unfolding after_last

@@ -1,11 +1,11 @@
 //! The rule time-table: a lot starts after the minutes at which it does not fit beside the fixed
 //! parts of the others.
-ghost use Rattle.std.specs.Prelude.{◌≡◌, ℕ, ◌+◌, ◌-◌, ◌<◌, ◌≤◌, length, nat_lt, replicate, slice_index};
-ghost use Rattle.lots.specs.Limits.{horizon, max_capacity};
+ghost use Rattle.std.specs.Prelude.{◌≡◌, ℕ, ◌<◌, ◌≤◌, length, replicate, slice_index};
+ghost use Rattle.lots.specs.Limits.{horizon};
 ghost use Rattle.lots.specs.Tables.{ect, LawfulLot};
 ghost use Rattle.rules.specs.TimeTable.{fixed_trays, fixed_load, some_passes, after_last, bound_of, time_table};
 ghost use Rattle.rules.specs.Laws.TimeTables.{time_table_sound};
-ghost use Rattle.rules.specs.Private.FixedParts.{begun_at, ended_at, greatest_below};
+ghost use Rattle.rules.specs.Private.Changes.{begun_at, ended_at, greatest_below};
 
 use lots::{HORIZON, Lot, MAX_LOTS, Refusal, Table};
 use rule::{Rule, Verdict, raise};
@@ -29,7 +29,7 @@ fn fixed_at(lot: Lot, minute: u32) -> u16
 }
 
 // Enters where the fixed parts of a table begin and end: at each minute, the trays of those that
-// begin there and of those that end there. Outside the minutes of the answer there is none.
+// begin there and of those that end there. They all lie within the minutes of the answer.
 fn enter(table: Table, begun: &mut [u16; MINUTES], ended: &mut [u16; END_MINUTES]) -> Range<usize>
     requires begun_blank { begun.old ≡ replicate MINUTES 0 }
     requires ended_blank { ended.old ≡ replicate END_MINUTES 0 }
@@ -58,7 +58,7 @@ fn enter(table: Table, begun: &mut [u16; MINUTES], ended: &mut [u16; END_MINUTES
 }
 
 // The trays that the fixed parts of all lots of a table hold, one number for each minute of the
-// week.
+// week, and the greatest of these.
 #[derive(Drop)]
 struct Loads<'a> {
     table: Table<'a>,
@@ -70,7 +70,7 @@ struct Loads<'a> {
 }
 
 impl<'a> Loads<'a> {
-    ghost use Rattle.rules.specs.Private.Loads.{is_blocked_under};
+    ghost use Rattle.rules.specs.Private.Loads.{lacks_room, is_blocked_under};
 
     // The loads of a table, in an array of zeros that is lent: over the minutes, the sum of what
     // begins at each less what ends there.
@@ -101,13 +101,11 @@ impl<'a> Loads<'a> {
         self.greatest > self.table.capacity
     }
 
-    // Whether the lot, where it runs at a minute, does not fit there beside the fixed parts of the
-    // others.
-    fn is_blocked(&self, lot: Lot, minute: u32) -> bool
+    // Whether a lot of the table does not fit at a minute beside the fixed parts of the others.
+    fn lacks_room(&self, lot: Lot, minute: u32) -> bool
         requires has_trays { lot.c ≤ self.now.table.capacity }
         requires in_week { minute < horizon }
-        ensures answer { result ≡ nat_lt self.now.table.capacity
-            (lot.c + slice_index self.now.by_minute.now minute - fixed_trays lot minute) }
+        ensures answer { result ≡ lacks_room self.now lot minute }
     {
         let load = self.by_minute[minute as usize];
         let room = self.table.capacity - lot.c;
@@ -123,7 +121,7 @@ impl<'a> Loads<'a> {
     {
         (u32::from(lot.est)..lot.ect())
             .rev()
-            .find(|minute| self.is_blocked(lot, *minute))
+            .find(|minute| self.lacks_room(lot, *minute))
             .map_or(0, |minute| (minute + 1) as u16)
     }
 

@@ -3,7 +3,7 @@ use Rattle.std.proofs.lemmas.Bool.Decides.{nat_tests}
 use Rattle.std.proofs.lemmas.Grind.{common_steps}
 use Rattle.std.proofs.lemmas.List.{get_or-replicate, length-set}
 use Rattle.lots.specs.Limits.{horizon}
-use Rattle.rules.specs.Private.FixedParts.{trays_begun, trays_ended}
+use Rattle.rules.specs.Private.Changes.{trays_begun, trays_ended}
 use Rattle.rules.proofs.Loads.{lot_lawful, sum_more, fixed_more, begun_few, ended_few}
 use Rattle.rules.proofs.time_table.enter.Goals as goal
 use Rattle.rules.proofs.time_table.enter.Goals.{then-start-end, else-start-end}

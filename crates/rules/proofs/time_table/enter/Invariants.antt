@@ -1,7 +1,7 @@
 use Rattle.std.proofs.Common.{◌≡◌, ℕ, suc, ◌<◌, ◌≤◌, length, get_or, take}
 use Rattle.lots.specs.Limits.{horizon}
 use Rattle.rules.specs.TimeTable.{fixed_load}
-use Rattle.rules.specs.Private.FixedParts.{begun_at, ended_at}
+use Rattle.rules.specs.Private.Changes.{begun_at, ended_at}
 use Rattle.rules.proofs.time_table.enter.Given as goal
 
 abbrev pub invariant-loop-lot : goal.invariant-loop-lot

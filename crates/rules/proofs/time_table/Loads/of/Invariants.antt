@@ -1,7 +1,7 @@
 use Rattle.std.proofs.Common.{◌≡◌, ℕ, ◌<◌, ◌≤◌, length, get_or}
 use Rattle.lots.specs.Limits.{horizon}
 use Rattle.rules.specs.TimeTable.{fixed_load}
-use Rattle.rules.specs.Private.FixedParts.{begun_at, greatest_below}
+use Rattle.rules.specs.Private.Changes.{begun_at, greatest_below}
 use Rattle.rules.proofs.Loads.{load_before}
 use Rattle.rules.proofs.time_table.Loads.of.Given as goal
 

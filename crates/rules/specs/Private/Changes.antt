@@ -1,4 +1,4 @@
--- Where fixed parts begin and end, and the greatest of some loads.
+-- How the load of the fixed parts changes from minute to minute, and the greatest of some loads.
 use Rattle.std.specs.Prelude.{ℕ, zero, suc, max, Bool, if◌then◌else◌, ◌&&◌, ◌==◌, List, nat_lt}
 use Rattle.std.specs.List.{sum_by}
 use Rattle.lots.specs.Tables.{ect, lst}
