@@ -1,8 +1,12 @@
 pub mod Counts
 pub mod Keys
-pub mod Points
+pub mod Entering
 pub mod Profiles
 pub mod Minutes
 pub mod Soundness
-pub mod Walks
 pub mod Marked
+pub mod Walks
+pub mod Counting
+pub mod Kept
+pub mod Held
+pub mod Required

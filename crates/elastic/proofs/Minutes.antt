@@ -1,5 +1,5 @@
 -- The profile counted from minute 0, and not from the earliest est.
-use Rattle.std.proofs.Common.{◌≡◌, ℕ, zero, suc, ◌+◌, ◌-◌, ◌<◌, ◌≤◌, min, Bool, true, false, if◌then◌else◌, leb, ltb, List, [], ◌∷◌, ◌++◌, sym, refl, ap, ◌∙◌, inl, inr, add-suc, arith}
+use Rattle.std.proofs.Common.{◌≡◌, ℕ, zero, suc, ◌+◌, ◌-◌, ◌<◌, ◌≤◌, Bool, true, false, if◌then◌else◌, leb, List, [], ◌∷◌, ◌++◌, sym, refl, ap, ◌∙◌, inl, inr, add-suc, arith}
 use Rattle.std.proofs.ByRecursion.{All-append}
 use Rattle.std.proofs.lemmas.List.{append-nil}
 use Rattle.std.proofs.lemmas.Bool.{cases_lt, leb-true, leb-false}
@@ -9,16 +9,8 @@ use Rattle.lots.specs.Tables.{ect, Fits}
 use Rattle.lots.specs.declared.Lot.{Lot}
 use Rattle.elastic.specs.Marked.{stand_in_lot, stand_in}
 use Rattle.elastic.specs.Profile.{earliest, latest, available, creq, ov_before, overflow}
+use Rattle.elastic.specs.Private.Walks.{usable, rest}
 use Rattle.elastic.proofs.Profiles.{available_between, creq_between}
-
--- ov in the minute before t, counted from minute 0, where U t trays can be in use at t
-abbrev pub rest : (ℕ → ℕ) → List Lot → ℕ → ℕ
-rest U Ω zero = 0
-rest U Ω (suc t) = (rest U Ω t + creq Ω t) - min (available Ω t) (U t)
-
--- the trays that can be in use at t where c of C are kept until m
-abbrev pub usable : ℕ → ℕ → ℕ → ℕ → ℕ
-usable C c m t = if ltb t m then C - c else C
 
 pub usable_before : (C c m t : ℕ) → t < m → usable C c m t ≡ C - c
 usable_before C c m t h = grind (arith, nat_tests)
@@ -26,7 +18,7 @@ usable_before C c m t h = grind (arith, nat_tests)
 pub usable_after : (C c m t : ℕ) → m ≤ t → usable C c m t ≡ C
 usable_after C c m t h = grind (arith, nat_tests)
 
-spans_out : (a b c t : ℕ) → t < a → (if spans a b t then c else 0) ≡ 0
+pub spans_out : (a b c t : ℕ) → t < a → (if spans a b t then c else 0) ≡ 0
 spans_out a b c t h = grind (arith, nat_tests)
 
 spans_past : (a b c t : ℕ) → b ≤ t → (if spans a b t then c else 0) ≡ 0
@@ -60,7 +52,7 @@ overflow_rest C Ω h =
     let e : earliest Ω + (latest Ω - earliest Ω) ≡ latest Ω = omega (arith, earliest_latest Ω h) in
     sym (rest_from C Ω (latest Ω - earliest Ω)) ∙ ap (rest (λ t. C) Ω) e
 
-creq_late : (Ω : List Lot) (t : ℕ) → Fits Ω → latest Ω ≤ t → creq Ω t ≡ 0
+pub creq_late : (Ω : List Lot) (t : ℕ) → Fits Ω → latest Ω ≤ t → creq Ω t ≡ 0
 creq_late [] t h l = refl
 creq_late (x ∷ xs) t h l = omega (arith, spans_past x.est (ect x) x.c t (omega (arith, h.0)), creq_late xs t h.1 (omega arith))
 
@@ -69,7 +61,7 @@ available_late [] t l = refl
 available_late (x ∷ xs) t l = omega (arith, spans_past x.est x.lct x.c t (omega arith), available_late xs t (omega arith))
 
 -- past the latest lct nothing changes
-rest_late : (U : ℕ → ℕ) (Ω : List Lot) → Fits Ω → (k : ℕ) → rest U Ω (latest Ω + k) ≡ rest U Ω (latest Ω)
+pub rest_late : (U : ℕ → ℕ) (Ω : List Lot) → Fits Ω → (k : ℕ) → rest U Ω (latest Ω + k) ≡ rest U Ω (latest Ω)
 rest_late U Ω h zero = ap (rest U Ω) (omega arith)
 rest_late U Ω h (suc k) =
     ap (rest U Ω) (add-suc (latest Ω) k)

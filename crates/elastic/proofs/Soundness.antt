@@ -5,7 +5,8 @@ use Rattle.lots.specs.Schedules.{spans, load, Placed, Schedule}
 use Rattle.lots.specs.declared.Lot.{Lot}
 use Rattle.lots.proofs.Schedules.{placed_fits}
 use Rattle.elastic.specs.Profile.{latest, available, creq, overflow}
-use Rattle.elastic.proofs.Minutes.{rest, overflow_rest}
+use Rattle.elastic.specs.Private.Walks.{rest}
+use Rattle.elastic.proofs.Minutes.{overflow_rest}
 
 -- how many of the p minutes from a are before t
 abbrev done : ℕ → ℕ → ℕ → ℕ

@@ -1,5 +1,5 @@
 -- The elastic profile of a list of lots Ω under the capacity C.
-use Rattle.std.specs.Prelude.{ℕ, zero, suc, ◌+◌, ◌-◌, min, max, Bool, false, if◌then◌else◌, ◌||◌, List, [], ◌∷◌, ◌==◌}
+use Rattle.std.specs.Prelude.{◌≡◌, ℕ, zero, suc, ◌+◌, ◌-◌, ◌≤◌, min, max, Bool, false, if◌then◌else◌, ◌||◌, List, [], ◌∷◌, ◌==◌}
 use Rattle.lots.specs.Schedules.{spans}
 use Rattle.lots.specs.Tables.{ect}
 use Rattle.lots.specs.declared.Lot.{Lot}
@@ -28,6 +28,11 @@ cmax C Ω t = min (available Ω t) C
 abbrev pub creq : List Lot → ℕ → ℕ
 creq [] t = 0
 creq (x ∷ xs) t = (if spans x.est (ect x) t then x.c else 0) + creq xs t
+
+-- n is the greatest of the numbers F t
+pub record IsGreatest (F : ℕ → ℕ) (n : ℕ) : Type 0 where
+  pub bound : (t : ℕ) → F t ≤ n
+  pub reached : (t : ℕ) × (F t ≡ n)
 
 -- the trays in use at t, where `before` is ov in the minute before t
 abbrev pub cons : ℕ → List Lot → ℕ → ℕ → ℕ

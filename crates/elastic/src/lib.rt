@@ -6,9 +6,13 @@ ghost use Rattle.elastic.specs.Overflow.{OverflowAnswered, FewPoints, NoneIfSche
 
 use lots::{Lot, Refusal, Table};
 
+mod points;
 mod profile;
+mod walk;
 
+use points::Points;
 pub use profile::Profile;
+use walk::left_over;
 
 /// The overflow of a table, in trays times minutes, and the number of points of its profile
 /// (docs/RULES.md, "The elastic profile").
@@ -18,7 +22,9 @@ pub fn overflow_of(table: Table<'_>) -> (u32, usize)
     ensures none_if_schedulable { NoneIfSchedulable table.entry.capacity table.entry.lots.now
         (Ok result) }
 {
-    Profile::of(table).overflow()
+    let points = Points::of(table);
+    let points = points.as_slice();
+    (left_over(points, table.capacity), points.len())
 }
 
 /// The overflow, in trays times minutes, and the number of points of the profile of any lots under
@@ -132,6 +138,43 @@ mod tests {
         assert_eq!(rt; profile.overflow_beside(1, 3), (1, 3));
         assert_eq!(rt; profile.overflow_beside(1, 2), (0, 3));
         assert_eq!(rt; profile.overflow_beside(2, 3), (0, 3));
+    }
+
+    #[test]
+    fn a_lot_may_come_before_all_that_was_walked(rt: HostRuntime) {
+        let lots = [FULL, LONG];
+        let table = Table::new(2, &lots).expect(&rt, "the table is lawful");
+        let mut profile = Profile::new(table);
+        profile.add(0);
+        assert_eq!(rt; profile.overflow(), (0, 2));
+        profile.add(1);
+        assert_eq!(rt; profile.overflow(), (1, 4));
+        assert_eq!(rt; profile.overflow(), (1, 4));
+    }
+
+    #[test]
+    fn an_emptied_profile_is_as_new(rt: HostRuntime) {
+        let lots = [FULL, LONG];
+        let table = Table::new(2, &lots).expect(&rt, "the table is lawful");
+        let mut profile = Profile::of(table);
+        assert_eq!(rt; profile.overflow(), (1, 4));
+        profile.clear();
+        assert_eq!(rt; profile.overflow(), (0, 0));
+        profile.add(1);
+        assert_eq!(rt; profile.overflow(), (0, 3));
+    }
+
+    // Each lot takes a tray for 64 minutes, so with one tray 191 of 64 × 64 are done by the end.
+    #[test]
+    fn as_many_points_as_fit(rt: HostRuntime) {
+        let mut lots = [WEEK; 64];
+        for (number, lot) in lots.iter_mut().enumerate() {
+            let est = number as u16;
+            *lot = Lot::new(est, est + 128, 64, 1);
+        }
+        assert_eq!(rt; overflow(64, &lots), Ok((0, 192)));
+        let table = Table::new(1, &lots).expect(&rt, "the table is lawful");
+        assert_eq!(rt; Profile::of(table).overflow(), (3905, 192));
     }
 
     #[test]

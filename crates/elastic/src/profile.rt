@@ -1,171 +1,116 @@
-//! The elastic profile of some lots of a table: its points, and the work that is left over at the
-//! last of them.
-ghost use Rattle.std.specs.Prelude.{◌≡◌, ◌+◌, ◌-◌, ◌*◌, ◌<◌, ◌≤◌, min, ℕ, false, ◌&&◌, ◌||◌, ◌==◌, nat_lt, List, ◌∷◌, ◌++◌, length, slice_index_or, pos, ◌+ℤ◌, ◌≤ℤ◌, slice_set};
-ghost use Rattle.std.specs.List.{AllByRecursion};
-ghost use Rattle.lots.specs.Limits.{horizon, max_capacity, max_lots};
-ghost use Rattle.lots.specs.Tables.{lot_at, LawfulLot, Lawful};
-ghost use Rattle.lots.specs.declared.Lot.{Lot};
-ghost use Rattle.elastic.specs.Private.Points.{at_est, at_ect, at_lct, Small, Entered, Profiles, point_at, changed_point, max_points};
-ghost use Rattle.elastic.specs.Profile.{overflow, points};
+//! The elastic profile of some lots of a table, and the work that is left over in it.
+ghost use Rattle.std.specs.Prelude.{◌≡◌, ◌+◌, ◌<◌, ◌≤◌, ℕ, false, ◌&&◌, ◌||◌, ◌==◌, nat_lt, List, [], ◌∷◌, ◌++◌, length, slice_index};
+ghost use Rattle.lots.specs.Tables.{lot_at};
+ghost use Rattle.elastic.specs.Private.Counted.{Counted, IsDistinct};
+ghost use Rattle.elastic.specs.Private.Points.{minutes_of, max_points, HavePlaces, Profiles};
+ghost use Rattle.elastic.specs.Private.Walks.{usable, reached, Known};
+ghost use Rattle.elastic.specs.Profile.{creq, latest, minutes, overflow, points as points_of, IsGreatest};
 ghost use Rattle.elastic.specs.Overflow.{left_over, point_count};
 ghost use Rattle.elastic.specs.Marked.{marked_lots, stand_in};
 ghost use Rattle.std.proofs.Props.{props};
 
-use lots::{Lot, MAX_LOTS, Table};
-use row::{ArrayRow, Keyed, Place};
+use crate::points::{MAX_POINTS, Places, Points};
+use crate::walk::{StandIn, State, most_required, walk_on};
+use lots::{MAX_LOTS, Table};
 
-// At most the est, the ect and the lct.
-const POINTS_OF_A_LOT: usize = 3;
+// One before the first point, and one at each.
+const MAX_STATES: usize = MAX_POINTS + 1;
 
-const MAX_POINTS: usize = POINTS_OF_A_LOT * MAX_LOTS;
-
-// A minute, and by how much the available and the required trays change at it.
-#[derive(Clone, Copy, Default)]
-struct Point {
-    minute: u16,
-    available: i32,
-    required: i32,
+// The points that the added lots have, by place, and how many these are.
+#[derive(Clone, Copy)]
+struct PointCount {
+    marks: [bool; MAX_POINTS],
+    count: usize,
 }
 
-impl Point {
-    // From its est on, a lot's trays are available and required.
-    fn at_est(lot: &Lot) -> Point
-        ensures answer { result ≡ at_est lot.now }
+impl PointCount {
+    // No point.
+    fn none() -> PointCount
+        ensures answer { (us : List ℕ) → Counted us [] result.marks result.count }
     {
-        let c = i32::from(lot.c);
-        Point {
-            minute: lot.est,
-            available: c,
-            required: c,
+        PointCount {
+            marks: [false; MAX_POINTS],
+            count: 0,
         }
     }
 
-    // From its ect on, they are required no more.
-    fn at_ect(lot: &Lot) -> Point
-        requires lawful { LawfulLot max_capacity lot.now }
-        ensures answer { result ≡ at_ect lot.now }
+    // Counts the point of a place, unless it is counted.
+    fn add(&mut self, place: usize)
+        requires within { place < max_points }
+        requires few { self.old.count < max_points }
+        ensures more { self.new.count ≤ self.old.count + 1 }
+        ensures after { (us ts ts' : List ℕ) → IsDistinct us → place < length us
+            → Counted us (ts ++ ts') self.old.marks self.old.count
+            → Counted us (ts ++ slice_index us place ∷ ts') self.new.marks self.new.count }
     {
-        Point {
-            minute: lot.est + lot.p,
-            available: 0,
-            required: -i32::from(lot.c),
+        if !self.marks[place] {
+            self.marks[place] = true;
+            self.count += 1;
         }
-    }
-
-    // From its lct on, they are available no more.
-    fn at_lct(lot: &Lot) -> Point
-        ensures answer { result ≡ at_lct lot.now }
-    {
-        Point {
-            minute: lot.lct,
-            available: -i32::from(lot.c),
-            required: 0,
-        }
-    }
-
-    // Adds the two changes of another point to those of this one.
-    fn add(&mut self, change: Point)
-        requires small { (Small (max_capacity * max_points) self.old)
-            × (Small max_capacity change) }
-        ensures after { self.new ≡ changed_point self.old change }
-    {
-        self.available += change.available;
-        self.required += change.required;
-    }
-}
-
-impl Keyed for Point {
-    type Key = u16;
-
-    ghost keyed = { λ p. p.minute };
-
-    fn key(&self) -> u16 {
-        self.minute
-    }
-}
-
-// The points of a list of lots, one for each minute at which their profile changes.
-#[derive(Drop)]
-struct Points {
-    row: ArrayRow<Point, MAX_POINTS>,
-}
-
-impl Points {
-    // Adds a change to the point at the place i, where that lies. Its minute stays, so the row
-    // still ascends.
-    fn alter(&mut self, i: usize, change: Point)
-        requires within { i < length self.old.row }
-        requires few { length self.old.row ≤ max_points }
-        requires small { Small (max_capacity * max_points) (point_at self.old.row i) }
-        requires small_change { Small max_capacity change }
-        ensures after { let altered = changed_point (point_at self.old.row i) change in
-            self.new.row ≡ slice_set self.old.row i altered }
-    {
-        let row = &mut self.row;
-        let point = &mut row.cells[i];
-        point.add(change);
-    }
-
-    // Enters a change: as a point of its own, or with the changes of the point that its minute has.
-    fn enter(&mut self, change: Point)
-        requires free { length self.old.row < max_points }
-        requires small { AllByRecursion (Small (max_capacity * max_points)) self.old.row }
-        requires small_change { Small max_capacity change }
-        ensures after { Entered self.old.row change self.new.row }
-    {
-        match self.row.put(change) {
-            Place::Placed(_) => {}
-            Place::Present(i) => self.alter(i, change),
-            Place::Full => unreachable(),
-        }
-    }
-
-    // Adds a lot to the list whose profile this is, at any place.
-    fn add(&mut self, lot: &Lot)
-        requires lawful { LawfulLot max_capacity lot.now }
-        requires profile { (Ω : List Lot) × (length Ω < max_lots) × Profiles self.old.row Ω }
-        ensures after { (Ω Ψ : List Lot)
-            → Profiles self.old.row (Ω ++ Ψ) → Profiles self.new.row (Ω ++ lot.now ∷ Ψ) }
-    {
-        self.enter(Point::at_est(lot));
-        self.enter(Point::at_ect(lot));
-        self.enter(Point::at_lct(lot));
     }
 }
 
 /// The profile of some lots of a table: of those that were added (docs/RULES.md, "The elastic
-/// profile").
+/// profile"). It lies over the points of the whole table; a point that no added lot has changes
+/// nothing.
 #[derive(Drop)]
 pub struct Profile<'a> {
     table: Table<'a>,
     added: [bool; MAX_LOTS],
     points: Points,
-    // After `by` stands why this has one proof at most, as a ghost field must.
-    ghost profiles: { Profiles points.row
+    places: [Places; MAX_LOTS],
+    counted: PointCount,
+    // The walk that was asked for last, by how many points it has passed. Those up to `fresh` are
+    // as they would be now; from `reach` on no added lot has a point.
+    states: [State; MAX_STATES],
+    beside: StandIn,
+    fresh: usize,
+    reach: usize,
+    // After each `by` stands why it has one proof at most, as a ghost field must.
+    ghost profiles: { Profiles points.row table.lots.now
         (marked_lots added table.lots.now) } by { Prim.hlevel props },
+    ghost placed: { HavePlaces (minutes_of points.row)
+        table.lots.now places } by { Prim.hlevel props },
+    ghost counts: { Counted (minutes_of points.row) (minutes (marked_lots added table.lots.now))
+        counted.marks counted.count } by { Prim.hlevel props },
+    ghost fits: { beside.trays ≤ table.capacity },
+    ghost known: { Known (usable table.capacity beside.trays beside.until)
+        (marked_lots added table.lots.now) (minutes_of points.row)
+        states fresh } by { Prim.hlevel props },
+    ghost some_fresh: { fresh ≤ reach },
+    ghost within: { reach ≤ length points.row },
+    ghost past_all: { latest (marked_lots added table.lots.now)
+        ≤ reached (minutes_of points.row) reach },
 }
 
 impl<'a> Profile<'a> {
-    ghost use Rattle.elastic.specs.Added.{added_lots};
+    ghost use Rattle.elastic.specs.Added.{table_of, marks_of, is_added, added_lots};
 
     /// The profile of none of the table's lots.
     pub fn new(table: Table<'a>) -> Profile<'a>
-        ensures table { result.table ≡ table.entry }
-        ensures none { (k : ℕ) → slice_index_or result.added k false ≡ false }
+        ensures table { table_of result ≡ table.entry }
+        ensures none { (k : ℕ) → is_added result k ≡ false }
     {
+        let mut points = Points::of(table);
+        let places = points.places(table);
+        points.clear();
         Profile {
             table,
             added: [false; MAX_LOTS],
-            points: Points {
-                row: ArrayRow::new(),
-            },
+            points,
+            places,
+            counted: PointCount::none(),
+            states: [State::default(); MAX_STATES],
+            beside: StandIn::default(),
+            fresh: 0,
+            reach: 0,
         }
     }
 
     /// The profile of all lots of the table.
     pub fn of(table: Table<'a>) -> Profile<'a>
-        ensures table { result.table ≡ table.entry }
-        ensures all { marked_lots result.added table.entry.lots.now ≡ table.entry.lots.now }
+        ensures table { table_of result ≡ table.entry }
+        ensures all { added_lots result ≡ table.entry.lots.now }
     {
         let mut profile = Profile::new(table);
         for number in 0..table.lots.len() {
@@ -174,95 +119,134 @@ impl<'a> Profile<'a> {
         profile
     }
 
+    /// Takes all lots out again, so that it is as new.
+    pub fn clear(&mut self)
+        ensures table { table_of self.new ≡ table_of self.old }
+        ensures none { (k : ℕ) → is_added self.new k ≡ false }
+    {
+        self.added = [false; MAX_LOTS];
+        self.points.clear();
+        self.counted = PointCount::none();
+        self.fresh = 0;
+        self.reach = 0;
+    }
+
     /// Adds the lot of a number, from 0. Where no lot has this number, or its lot was added before,
     /// nothing changes.
     pub fn add(&mut self, number: usize)
-        ensures table { self.new.table ≡ self.old.table }
-        ensures added { let is_lot = nat_lt number (length self.old.table.lots.now) in
-            (k : ℕ) → slice_index_or self.new.added k false
-            ≡ (slice_index_or self.old.added k false || (k == number && is_lot)) }
+        ensures table { table_of self.new ≡ table_of self.old }
+        ensures added { let is_lot = nat_lt number (length (table_of self.old).lots.now) in
+            (k : ℕ) → is_added self.new k ≡ (is_added self.old k || (k == number && is_lot)) }
     {
         let lots = self.table.lots;
         if number < lots.len() && !self.added[number] {
+            let places = self.places[number];
             self.added[number] = true;
-            self.points.add(&lots[number]);
+            self.points.add(places, &lots[number]);
+            self.counted.add(places.lct);
+            self.counted.add(places.ect);
+            self.counted.add(places.est);
+            // The walk goes on from its est, since nothing changes before.
+            self.fresh = self.fresh.min(places.est);
+            self.reach = self.reach.max(places.lct + 1);
         }
     }
 
     // The trays of the lot of a number, and none where there is no such lot.
     fn trays(&self, number: usize) -> u16
-        ensures answer { result ≡ (lot_at self.now.table.lots.now number).c }
+        ensures answer { result ≡ (lot_at (table_of self.now).lots.now number).c }
     {
         self.table.lots.get(number).map_or(0, |lot| lot.c)
     }
 
-    /// The overflow of the lots that were added, in trays times minutes, and the number of points.
-    pub fn overflow(&self) -> (u32, usize)
-        ensures left { left_over result
-            ≡ overflow self.now.table.capacity (added_lots self.now) }
-        ensures points { point_count result ≡ points (added_lots self.now) }
+    // How many of the points that the last walk has passed lie by a minute.
+    fn passed_by(&self, minute: u16) -> usize
+        ensures few { result ≤ self.now.fresh }
+        ensures by { reached (minutes_of self.now.points.row) result ≤ minute }
+        ensures no_more { (j : ℕ) → result < j → j ≤ self.now.fresh
+            → minute < reached (minutes_of self.now.points.row) j }
     {
-        let points = self.points.row.as_slice();
-        (walk(points, self.table.capacity, 0, 0), points.len())
+        let mut passed = self.fresh;
+        while passed > 0 && self.states[passed].minute > minute {
+            passed -= 1;
+        }
+        passed
+    }
+
+    // How many points a walk beside another lot has passed as the last one did. Where it keeps as
+    // many trays, the two are the same until the first of the two lots is out.
+    fn fresh_beside(&self, beside: StandIn) -> usize
+        ensures few { result ≤ self.now.fresh }
+        ensures known { Known (usable (table_of self.now).capacity beside.trays beside.until)
+            (added_lots self.now) (minutes_of self.now.points.row) self.now.states result }
+    {
+        let last = self.beside;
+        if beside.trays != last.trays {
+            return 0;
+        }
+        if beside.until == last.until {
+            return self.fresh;
+        }
+        self.passed_by(beside.until.min(last.until))
+    }
+
+    // What is left over at the last point, beside another lot.
+    fn walk(&mut self, beside: StandIn) -> u32
+        requires fits { beside.trays ≤ (table_of self.old).capacity }
+        ensures table { table_of self.new ≡ table_of self.old }
+        ensures added { marks_of self.new ≡ marks_of self.old }
+        ensures counted { self.new.counted ≡ self.old.counted }
+        ensures answer { let some = added_lots self.old in
+            result ≡ overflow (table_of self.old).capacity
+            (some ++ stand_in beside.trays beside.until some) }
+    {
+        self.fresh = self.fresh_beside(beside);
+        self.beside = beside;
+        walk_on(
+            self.points.as_slice(),
+            &mut self.states,
+            self.fresh,
+            self.reach,
+            self.table.capacity,
+            beside,
+        );
+        self.fresh = self.reach;
+        self.states[self.reach].left
+    }
+
+    /// The overflow of the lots that were added, in trays times minutes, and the number of points.
+    /// What is kept of the walk along the points is brought up to date, so the next asks less.
+    pub fn overflow(&mut self) -> (u32, usize)
+        ensures table { table_of self.new ≡ table_of self.old }
+        ensures added { marks_of self.new ≡ marks_of self.old }
+        ensures left { left_over result
+            ≡ overflow (table_of self.old).capacity (added_lots self.old) }
+        ensures points { point_count result ≡ points_of (added_lots self.old) }
+    {
+        (self.walk(StandIn::default()), self.counted.count)
     }
 
     /// The same beside a stand-in: a lot that keeps the trays of the lot of a number from the
     /// earliest est of the added lots until a minute (docs/RULES.md, "Not-first"). It brings no
     /// points.
-    pub fn overflow_beside(&self, number: usize, until: u16) -> (u32, usize)
-        ensures left { let some = added_lots self.now in
-            let trays = (lot_at self.now.table.lots.now number).c in
+    pub fn overflow_beside(&mut self, number: usize, until: u16) -> (u32, usize)
+        ensures table { table_of self.new ≡ table_of self.old }
+        ensures added { marks_of self.new ≡ marks_of self.old }
+        ensures left { let some = added_lots self.old in
+            let trays = (lot_at (table_of self.old).lots.now number).c in
             left_over result
-            ≡ overflow self.now.table.capacity (some ++ stand_in trays until some) }
-        ensures points { point_count result ≡ points (added_lots self.now) }
+            ≡ overflow (table_of self.old).capacity (some ++ stand_in trays until some) }
+        ensures points { point_count result ≡ points_of (added_lots self.old) }
     {
-        let points = self.points.row.as_slice();
-        let left = walk(points, self.table.capacity, self.trays(number), until);
-        (left, points.len())
+        let trays = self.trays(number);
+        (self.walk(StandIn { trays, until }), self.counted.count)
     }
-}
 
-// What is left over at the last of the points, beside a stand-in that keeps some trays until a
-// minute: up to then so many fewer can be in use, and before the first point none is.
-fn walk(points: &[Point], capacity: u16, trays: u16, until: u16) -> u32
-    requires profile { (Ω : List Lot) × Lawful max_capacity Ω × Profiles points.now Ω }
-    requires fits { trays ≤ capacity }
-    ensures answer { (Ω : List Lot) → Lawful max_capacity Ω → Profiles points.now Ω
-        → result ≡ overflow capacity (Ω ++ stand_in trays until Ω) }
-{
-    let mut left = 0;
-    let mut minute = 0;
-    let mut available = 0;
-    let mut required = 0;
-    for point in points {
-        let middle = until.max(minute).min(point.minute);
-        left = left_after(left, middle - minute, available, required, capacity - trays);
-        left = left_after(left, point.minute - middle, available, required, capacity);
-        minute = point.minute;
-        available = changed(available, point.available);
-        required = changed(required, point.required);
+    /// The most trays that the lots that were added require at one minute, if each starts at its
+    /// est. Where they are within the capacity, nothing is left over.
+    pub fn most_required(&self) -> u32
+        ensures greatest { IsGreatest (creq (added_lots self.now)) result }
+    {
+        most_required(self.points.as_slice())
     }
-    left
-}
-
-// What is left over after a span of minutes in which no number of trays changes.
-fn left_after(left: u32, span: u16, available: u32, required: u32, capacity: u16) -> u32
-    requires left_few { left ≤ max_capacity * max_lots * horizon }
-    requires span_short { span ≤ horizon }
-    requires available_few { available ≤ max_capacity * max_lots }
-    requires required_few { required ≤ max_capacity * max_lots }
-    ensures answer { result ≡ (left + span * required) - span * min available capacity }
-{
-    let span = u32::from(span);
-    (left + span * required).saturating_sub(span * available.min(u32::from(capacity)))
-}
-
-// A number of trays after a change.
-fn changed(trays: u32, change: i32) -> u32
-    requires trays_few { trays ≤ max_capacity * max_lots }
-    requires not_below { pos 0 ≤ℤ (pos trays +ℤ change) }
-    requires not_above { (pos trays +ℤ change) ≤ℤ pos (max_capacity * max_lots) }
-    ensures answer { pos result ≡ pos trays +ℤ change }
-{
-    (trays as i32 + change) as u32
 }

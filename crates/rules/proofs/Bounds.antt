@@ -1,46 +1,26 @@
 -- The greatest bound over the lots is the greatest over their latest ends.
-use Rattle.std.proofs.Common.{◌≡◌, ℕ, zero, suc, ◌+◌, ◌<◌, ◌≤◌, Bool, true, false, if◌then◌else◌, not, ◌&&◌, eqb, ltb, leb, ◌⊎◌, List, [], ◌∷◌, map, length, get_or, sym, refl, ap, ◌∙◌, subst, inl, inr, add-zero, zero-add, arith}
-use Rattle.std.proofs.lemmas.Bool.{cases_eq, false≢true, and_parts, and_from, or_cases, or_left, or_right, eqb-true, eq-eqb, le-leb}
+use Rattle.std.proofs.Common.{◌≡◌, ℕ, zero, suc, ◌+◌, ◌<◌, ◌≤◌, Bool, true, false, if◌then◌else◌, not, ◌&&◌, eqb, ltb, leb, List, [], ◌∷◌, length, ◌++◌, max, take, sym, refl, ap, ◌∙◌, subst, inl, inr, zero-add, arith}
+use Rattle.std.proofs.lemmas.List.{map_more}
+use Rattle.std.proofs.lemmas.Bool.{cases_eq, false≢true, and_parts, and_from, or_cases, eqb-true, le-leb}
 use Rattle.lots.specs.Tables.{ect, lot_at}
 use Rattle.lots.specs.declared.Lot.{Lot}
 use Rattle.elastic.specs.Profile.{has}
 use Rattle.elastic.proofs.Keys.{key_has}
-use Rattle.rule.specs.Raised.{raise}
-use Rattle.rules.specs.Chosen.{chosen_lots, is_overfull}
-use Rattle.rules.specs.Private.Ends.{end_minutes, DistinctEnds}
+use Rattle.rules.specs.Chosen.{is_overfull}
+use Rattle.rules.specs.Private.Ends.{end_at, end_minutes}
 use Rattle.rules.specs.Overload.{ends_of}
-use Rattle.rules.specs.NotFirst.{is_in_cut, cut, least_ect, cut_with_stand_in, bound_by, greatest_bound, not_first}
-use Rattle.rules.specs.Private.EndBounds.{end_bound, greatest_end_bound}
+use Rattle.rules.specs.NotFirst.{is_in_cut, cut, least_ect, cut_with_stand_in, bound_by, greatest_bound}
 use Rattle.rules.specs.declared.ends.End.{End}
-use Rattle.rules.proofs.Raised.{raise_same}
+use Rattle.rules.proofs.ChosenLots.{chosen_from, chosen_has}
 
--- which numbers f the chosen lots have
-module _ (f : Lot → ℕ) (test : ℕ → Lot → Bool) where
-  has_cond : (b : Bool) (t : ℕ) (x : Lot) (xs : List Lot) → has t (map f (if b then x ∷ xs else xs)) ≡ true → ((b ≡ true) × (f x ≡ t)) ⊎ (has t (map f xs) ≡ true)
-  has_cond true t x xs h = elim (or_cases (eqb t (f x)) (has t (map f xs)) h) [ inl e ↦ inl (refl, sym (eqb-true t (f x) e)) | inr g ↦ inr g ]
-  has_cond false t x xs h = inr h
+-- the bound that the latest end t puts on the est of i, by whichever lot of the cut has it
+abbrev pub end_bound : ℕ → List Lot → ℕ → ℕ → ℕ
+end_bound C T i t = if has t (ends_of (cut T i t)) && is_overfull C (cut_with_stand_in T i t) then least_ect (cut T i t) else 0
 
-  pub chosen_from : (k t : ℕ) (T : List Lot) → has t (map f (chosen_lots test k T)) ≡ true → (j : ℕ) × (j < length T) × (test (k + j) (lot_at T j) ≡ true) × (f (lot_at T j) ≡ t)
-  chosen_from k t [] h = absurd (false≢true h)
-  chosen_from k t (x ∷ xs) h = elim (has_cond (test k x) t x (chosen_lots test (suc k) xs) h) [
-    | inl here ↦ (0, omega arith, subst (λ n. test n x ≡ true) (sym (add-zero k)) here.0, here.1)
-    | inr there ↦
-        let r = chosen_from (suc k) t xs there in
-        (suc r.0, omega (arith, r.1), subst (λ n. test n (lot_at xs r.0) ≡ true) (omega arith) r.2, r.3)
-  ]
-
-  cond_has : (b : Bool) (t : ℕ) (x : Lot) (xs : List Lot) → has t (map f xs) ≡ true → has t (map f (if b then x ∷ xs else xs)) ≡ true
-  cond_has true t x xs h = or_right (eqb t (f x)) (has t (map f xs)) h
-  cond_has false t x xs h = h
-
-  pub chosen_has : (k j : ℕ) (T : List Lot) → j < length T → test (k + j) (lot_at T j) ≡ true → has (f (lot_at T j)) (map f (chosen_lots test k T)) ≡ true
-  chosen_has k j [] h e = absurd (omega arith)
-  chosen_has k zero (x ∷ xs) h e =
-      let in' = subst (λ n. test n x ≡ true) (add-zero k) e in
-      ap (λ b. has (f x) (map f (if b then x ∷ chosen_lots test (suc k) xs else chosen_lots test (suc k) xs))) in'
-      ∙ or_left (eqb (f x) (f x)) (has (f x) (map f (chosen_lots test (suc k) xs))) (eq-eqb (f x) (f x) refl)
-  chosen_has k (suc j) (x ∷ xs) h e =
-      cond_has (test k x) (f (lot_at xs j)) x (chosen_lots test (suc k) xs) (chosen_has (suc k) j xs (omega arith) (subst (λ n. test n (lot_at xs j) ≡ true) (omega arith) e))
+-- the greatest of those that the latest ends ts put
+abbrev pub greatest_end_bound : ℕ → List Lot → ℕ → List ℕ → ℕ
+greatest_end_bound C T i [] = 0
+greatest_end_bound C T i (t ∷ ts) = max (end_bound C T i t) (greatest_end_bound C T i ts)
 
 module _ (C : ℕ) (T : List Lot) (i : ℕ) where
   bound_below : (n j : ℕ) → j < n → bound_by C T i j ≤ greatest_bound C T i n
@@ -106,7 +86,12 @@ module _ (C : ℕ) (T : List Lot) (i : ℕ) where
   pub greatest_by_ends : (ts : List ℕ) → ((t : ℕ) → has t ts ≡ has t (ends_of T)) → greatest_end_bound C T i ts ≡ greatest_bound C T i (length T)
   greatest_by_ends ts same = omega (arith, ends_most ts, lots_most ts same (length T) (omega arith))
 
--- so the bounds that the distinct ends put are those of the rule
-pub not_first_by_ends : (C : ℕ) (T : List Lot) (es : List End) (bounds : List ℕ) → DistinctEnds T es → ((i : ℕ) → i < length T → get_or bounds i 0 ≡ greatest_end_bound C T i (end_minutes es)) → not_first C T ≡ raise (λ j. get_or bounds j 0) T
-not_first_by_ends C T es bounds is told =
-    raise_same (λ i. greatest_bound C T i (length T)) (λ j. get_or bounds j 0) T (λ i h. sym (told i h ∙ greatest_by_ends C T i (end_minutes es) is.ends))
+  -- the greatest bound, one end more
+  greatest_push : (ts : List ℕ) (t : ℕ) → greatest_end_bound C T i (ts ++ (t ∷ [])) ≡ max (greatest_end_bound C T i ts) (end_bound C T i t)
+  greatest_push [] t = omega arith
+  greatest_push (u ∷ us) t = omega (arith, greatest_push us t)
+
+  pub greatest_more : (es : List End) (n : ℕ) → n < length es → greatest_end_bound C T i (end_minutes (take (n + 1) es)) ≡ max (greatest_end_bound C T i (end_minutes (take n es))) (end_bound C T i (end_at es n).lct)
+  greatest_more es n h =
+      ap (greatest_end_bound C T i) (map_more (λ (x : End). x.lct) es n _ h)
+      ∙ greatest_push (end_minutes (take n es)) (end_at es n).lct

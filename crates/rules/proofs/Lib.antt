@@ -4,7 +4,10 @@ pub mod Loads
 pub mod Greatest
 pub mod Raised
 pub mod Bounds
-pub mod GrowingCuts
+pub mod EndChains
+pub mod Growing
 pub mod ChosenLots
 pub mod OverloadEnds
 pub mod Searches
+pub mod Candidates
+pub mod Requirements

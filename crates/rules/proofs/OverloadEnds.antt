@@ -1,43 +1,53 @@
 -- Overload, asked once for each distinct latest end.
-use Rattle.std.specs.Prelude.{◌≡◌, ℕ, Bool, true, if◌then◌else◌, ◌||◌, List, [], ◌∷◌, ◌==◌, refl}
-use Rattle.std.proofs.Common.{inl, inr, sym, ap, subst, ◌∙◌}
-use Rattle.std.specs.List.{list_any}
+use Rattle.std.proofs.Common.{◌≡◌, ℕ, ◌+◌, ◌<◌, true, false, ◌||◌, eqb, List, [], ◌∷◌, length, take, sym, refl, ap, ap₂, ◌∙◌, subst, inl, inr}
 use Rattle.std.proofs.lemmas.Bool.{or_cases, or_left, or_right, eqb-true, eq-eqb, false≢true}
-use Rattle.std.proofs.lemmas.Bool.Decides.{same_from_decides}
 use Rattle.lots.specs.declared.Lot.{Lot}
-use Rattle.elastic.specs.Profile.{has}
-use Rattle.rule.specs.Meanings.{dead, to}
+use Rattle.lots.specs.declared.table.Table.{Table}
+use Rattle.elastic.specs.Added.{table_of, added_lots}
+use Rattle.elastic.specs.Profile.{has, overflow}
+use Rattle.elastic.specs.declared.profile.Profile.{Profile}
+use Rattle.elastic.proofs.Keys.{key_place, key_has}
 use Rattle.rules.specs.Chosen.{is_overfull}
-use Rattle.rules.specs.Private.Ends.{end_minutes, DistinctEnds}
-use Rattle.rules.specs.Overload.{ends_of, due_lots, some_overfull, overload}
+use Rattle.rules.specs.Private.Ends.{end_at, end_minutes, DistinctEnds}
+use Rattle.rules.specs.Overload.{ends_of, due_lots, some_overfull}
 use Rattle.rules.specs.declared.ends.End.{End}
+use Rattle.rules.proofs.Growing.{Holds, due_held}
 
--- only which minutes there are matters, not how often or in which order
 module _ (C : ℕ) (T : List Lot) where
   some_from : (ts : List ℕ) (t : ℕ) → has t ts ≡ true → is_overfull C (due_lots t T) ≡ true → some_overfull C T ts ≡ true
   some_from [] t h full = absurd (false≢true h)
-  some_from (u ∷ us) t h full = elim (or_cases (t == u) (has t us) h) [
+  some_from (u ∷ us) t h full = elim (or_cases (eqb t u) (has t us) h) [
     | inl e ↦ or_left (is_overfull C (due_lots u T)) (some_overfull C T us) (subst (λ v. is_overfull C (due_lots v T) ≡ true) (eqb-true t u e) full)
     | inr g ↦ or_right (is_overfull C (due_lots u T)) (some_overfull C T us) (some_from us t g full)
   ]
 
-  some_moved : (ts us : List ℕ) → ((t : ℕ) → has t ts ≡ true → has t us ≡ true) → some_overfull C T ts ≡ true → some_overfull C T us ≡ true
-  some_moved [] us into h = absurd (false≢true h)
-  some_moved (t ∷ ts) us into h = elim (or_cases (is_overfull C (due_lots t T)) (some_overfull C T ts) h) [
-    | inl full ↦ some_from us t (into t (or_left (t == t) (has t ts) (eq-eqb t t refl))) full
-    | inr more ↦ some_moved ts us (λ u g. into u (or_right (u == t) (has u ts) g)) more
-  ]
+  none_from : (ts : List ℕ) → ((t : ℕ) → has t ts ≡ true → is_overfull C (due_lots t T) ≡ false) → some_overfull C T ts ≡ false
+  none_from [] h = refl
+  none_from (t ∷ ts) h =
+      ap (λ b. b || some_overfull C T ts) (h t (or_left (eqb t t) (has t ts) (eq-eqb t t refl)))
+      ∙ none_from ts (λ u g. h u (or_right (eqb u t) (has u ts) g))
 
-  pub some_same : (ts us : List ℕ) → ((t : ℕ) → has t ts ≡ has t us) → some_overfull C T ts ≡ some_overfull C T us
-  some_same ts us same =
-      same_from_decides (some_overfull C T ts) (some_overfull C T us) (λ e. e, λ e. e)
-      (some_moved us ts (λ t h. same t ∙ h), some_moved ts us (λ t h. sym (same t) ∙ h))
+module _ (table : Table) (es : List End) (is : DistinctEnds table.lots.now es) where
+  abbrev C : ℕ
+  C = table.capacity
 
-  -- the search through the distinct ends
-  pub any_overfull : (es : List End) → list_any (λ (x : End). is_overfull C (due_lots x.lct T)) es ≡ some_overfull C T (end_minutes es)
-  any_overfull [] = refl
-  any_overfull (x ∷ xs) = ap (λ b. is_overfull C (due_lots x.lct T) || b) (any_overfull xs)
+  abbrev T : List Lot
+  T = table.lots.now
 
--- the distinct ends tell as much as the lots
-pub overload_by_ends : (C : ℕ) (T : List Lot) (es : List End) → DistinctEnds T es → (b d : Bool) → b ≡ some_overfull C T (end_minutes es) → b ≡ d → overload C T ≡ (if d then dead else to T)
-overload_by_ends C T es is b d told e = ap (λ q. if q then dead else to T) (sym (some_same C T (end_minutes es) (ends_of T) is.ends) ∙ sym told ∙ e)
+  abbrev due : ℕ → List Lot
+  due n = due_lots (end_at es n).lct T
+
+  -- it matters which minutes there are, and not how often or in which order
+  pub some_at : (n : ℕ) → n < length es → is_overfull C (due n) ≡ true → some_overfull C T (ends_of T) ≡ true
+  some_at n h full = some_from C T (ends_of T) (end_at es n).lct (sym (is.ends _) ∙ key_has (λ (x : End). x.lct) es n _ _ h refl) full
+
+  pub none_at : ((n : ℕ) → n < length es → is_overfull C (due n) ≡ false) → some_overfull C T (ends_of T) ≡ false
+  none_at h = none_from C T (ends_of T) (λ t g.
+      let r = key_place (λ (x : End). x.lct) es t (is.ends t ∙ g) in
+      subst (λ u. is_overfull C (due_lots u T) ≡ false) (r.2 _) (h r.0 r.1))
+
+  -- what is left over in the profile of the ends up to n
+  pub left_due : (n : ℕ) → n < length es → (profile : Profile) → table_of profile ≡ table → Holds T (λ k x. true) (end_minutes (take (n + 1) es)) profile → (left : ℕ) → left ≡ overflow (table_of profile).capacity (added_lots profile) → left ≡ overflow C (due n)
+  left_due n h profile at holds left told =
+      let held = due_held T es is n h profile (ap (λ (t : Table). t.lots.now) at) holds in
+      told ∙ ap₂ (λ (t : Table) xs. overflow t.capacity xs) at held

@@ -1,8 +1,7 @@
 -- What only contracts of private code speak of. No promise needs it to be read.
-pub mod GrowingCuts
+pub mod Growing
 pub mod Tests
 pub mod Changes
 pub mod Loads
-pub mod EndBounds
 pub mod Candidates
 pub mod Ends

@@ -1,11 +1,10 @@
 //! Some of the lots of a table, gathered to be looked at as a list of their own.
 ghost use Rattle.std.specs.Prelude.{◌≡◌, ℕ, Bool};
 ghost use Rattle.lots.specs.declared.Lot.{Lot as AnyLot};
-ghost use Rattle.rules.specs.Chosen.{chosen_lots, is_overfull as overfull};
+ghost use Rattle.rules.specs.Chosen.{chosen_lots};
 ghost use Rattle.rules.specs.Private.Tests.{Tests};
 
 use arrayvec::ArrayVec;
-use elastic::overflow_of;
 use lots::{Lot, MAX_LOTS, Table};
 
 /// The lots of which the test of their number and themselves holds, in their order.
@@ -25,12 +24,4 @@ pub(crate) fn chosen<F: Fn(usize, &Lot) -> bool>(
         }
     }
     chosen
-}
-
-/// Whether the lots of a table have more work than fits.
-pub(crate) fn is_overfull(table: Table<'_>) -> bool
-    ensures answer { result ≡ overfull table.entry.capacity table.entry.lots.now }
-{
-    let (left, _points) = overflow_of(table);
-    left > 0
 }

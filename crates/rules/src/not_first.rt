@@ -1,15 +1,17 @@
 //! The rule not-first: a lot that cannot start before one of some others has ended starts at their
 //! least ect or later.
-ghost use Rattle.std.specs.Prelude.{◌≡◌, ℕ, ◌<◌, length, slice_index};
-ghost use Rattle.elastic.specs.Profile.{has};
-ghost use Rattle.rules.specs.Private.Ends.{end_minutes, Lowest, DistinctEnds};
-ghost use Rattle.rules.specs.Overload.{ends_of};
-ghost use Rattle.rules.specs.NotFirst.{is_in_cut, least_ect, not_first};
-ghost use Rattle.rules.specs.Private.EndBounds.{greatest_end_bound};
+ghost use Rattle.std.specs.Prelude.{◌≡◌, ℕ, ◌<◌, ◌≤◌, length, slice_index};
+ghost use Rattle.std.proofs.Props.{props};
+ghost use Rattle.lots.specs.Tables.{lot_at};
+ghost use Rattle.elastic.specs.Added.{table_of, marks_of, added_lots};
+ghost use Rattle.elastic.specs.Profile.{creq};
+ghost use Rattle.rules.specs.Overload.{due_lots};
+ghost use Rattle.rules.specs.Private.Ends.{Requirements};
+ghost use Rattle.rules.specs.NotFirst.{least_ect, greatest_bound, not_first};
 ghost use Rattle.rules.specs.Laws.NotFirstSound.{not_first_sound};
 
 use crate::chosen::chosen;
-use crate::ends::{End, distinct_ends};
+use crate::ends::Ends;
 use arrayvec::ArrayVec;
 use elastic::Profile;
 use lots::{Lot, MAX_LOTS, Refusal, Table};
@@ -25,107 +27,93 @@ fn least_end(lots: &[Lot]) -> u32
 // One lot of a table, of which is asked whether it can start before some others have ended.
 #[derive(Clone, Copy)]
 struct Candidate<'a> {
-    table: Table<'a>,
+    ends: &'a Ends<'a>,
     number: usize,
-    ghost stands: { number < length table.lots.now },
+    lot: Lot,
+    ghost stands: { number < length ends.now.table.lots.now },
+    ghost own: { lot ≡ lot_at ends.now.table.lots.now number } by { Prim.hlevel props },
 }
 
 impl Candidate<'_> {
-    ghost use Rattle.rules.specs.Private.Candidates.{own_lot, cut_of, MarksCut, MarksCutBefore, bound_at_end, bound_over_ends};
+    ghost use Rattle.rules.specs.Private.Candidates.{table_with, is_in_cuts, cut_of, bound_of_cut, own_bound};
 
-    fn lot(self) -> Lot
-        ensures answer { result ≡ own_lot self.entry }
+    // Whether the lot of a number is another, and cannot be out by the est of this one. Such a lot
+    // is in the cut up to its latest end, and in those up to later ones.
+    fn is_in_cuts(&self, number: usize, lot: &Lot) -> bool
+        ensures answer { result ≡ is_in_cuts self.now number lot.now }
     {
-        self.table.lots[self.number]
+        number != self.number && u32::from(self.lot.est) < lot.ect()
     }
 
-    // Whether the lot of a number is another, cannot be out by the est of this one, and must be out
-    // by a minute.
-    fn is_in_cut(self, number: usize, lot: &Lot, minute: u16) -> bool
-        ensures answer { let est = (own_lot self.entry).est in
-            result ≡ is_in_cut self.entry.number est minute number lot.now }
+    // The lots of the cut up to a minute.
+    fn cut(&self, minute: u16) -> ArrayVec<Lot, MAX_LOTS>
+        ensures answer { result.items ≡ cut_of self.now minute }
     {
-        number != self.number && u32::from(self.lot().est) < lot.ect() && lot.lct <= minute
+        chosen(self.ends.table, |number, lot| {
+            self.is_in_cuts(number, lot) && lot.lct <= minute
+        })
     }
 
-    // The lots of the table of which that holds.
-    fn cut(self, minute: u16) -> ArrayVec<Lot, MAX_LOTS>
-        ensures answer { result.items ≡ cut_of self.entry minute }
+    // The bound that the cut up to a minute puts on its est, by the profile of that cut; 0 where it
+    // puts none. The cut requires no more than the lots that are due by then, so where these leave
+    // room for its trays, nothing is left over, and the profile is not asked.
+    fn bound_at(&self, profile: &mut Profile<'_>, minute: u16, required: u32) -> u16
+        requires table { table_of profile.old ≡ table_with self.now }
+        requires cut { added_lots profile.old ≡ cut_of self.now minute }
+        requires required { let due = due_lots minute (table_with self.now).lots.now in
+            (t : ℕ) → creq due t ≤ required }
+        ensures table { table_of profile.new ≡ table_of profile.old }
+        ensures added { marks_of profile.new ≡ marks_of profile.old }
+        ensures bound { result ≡ bound_of_cut self.now minute }
     {
-        chosen(
-            self.table,
-            |number, lot| self.is_in_cut(number, lot, minute),
-        )
-    }
-
-    // Adds the lots of the cut that have a latest end, and answers whether there are any. The cut
-    // also has lots of earlier ends, which were added at these; and no lot has this end before the
-    // lowest, so the search for them begins there.
-    fn grow(self, profile: &mut Profile<'_>, end: End) -> bool
-        requires table { profile.old.table ≡ self.table }
-        requires lowest { Lowest self.table.lots.now end }
-        requires before { MarksCutBefore self end.lct profile.old.added }
-        ensures table { profile.new.table ≡ self.entry.table }
-        ensures cut { MarksCut self.entry end.lct profile.new.added }
-        ensures grown { result ≡ has end.lct (ends_of (cut_of self.entry end.lct)) }
-    {
-        let lots = self.table.lots;
-        let mut grown = false;
-        for number in end.lot..lots.len() {
-            let lot = &lots[number];
-            if lot.lct == end.lct && self.is_in_cut(number, lot, end.lct) {
-                profile.add(number);
-                grown = true;
-            }
-        }
-        grown
-    }
-
-    // The bound that a latest end puts on its est; 0 where it puts none.
-    fn bound_at(self, profile: &mut Profile<'_>, end: End) -> u16
-        requires table { profile.old.table ≡ self.table }
-        requires lowest { Lowest self.table.lots.now end }
-        requires before { MarksCutBefore self end.lct profile.old.added }
-        ensures table { profile.new.table ≡ self.entry.table }
-        ensures cut { MarksCut self.entry end.lct profile.new.added }
-        ensures bound { result ≡ bound_at_end self.entry end.lct }
-    {
-        if !self.grow(profile, end) {
+        if required <= u32::from(self.ends.table.capacity - self.lot.c) {
             return 0;
         }
-        let lot = self.lot();
-        let until = (lot.est + lot.p).min(end.lct);
+        let until = (self.lot.est + self.lot.p).min(minute);
         let (left, _points) = profile.overflow_beside(self.number, until);
         if left == 0 {
             return 0;
         }
-        least_end(self.cut(end.lct).as_slice()) as u16
+        least_end(self.cut(minute).as_slice()) as u16
     }
 
-    // The greatest bound that the latest ends put on its est; 0 without ends. The cut up to a later
-    // end has all lots of an earlier one, so one profile grows from end to end.
-    fn bound(self, ends: &[End]) -> u16
-        requires all { DistinctEnds self.table.lots.now ends.now }
-        ensures answer { result ≡ bound_over_ends self.entry (end_minutes ends.now) }
+    // The greatest bound that the latest ends put on its est. The cut up to a later end has all the
+    // lots of an earlier one, so the profile grows from end to end.
+    fn bound(&self, profile: &mut Profile<'_>, required: &[u32; MAX_LOTS]) -> u16
+        requires table { table_of profile.old ≡ table_with self.now }
+        requires required { Requirements (table_with self.now).lots.now self.now.ends.now.row
+            required.now }
+        ensures table { table_of profile.new ≡ table_of profile.old }
+        ensures answer { result ≡ own_bound self.now }
     {
-        let mut profile = Profile::new(self.table);
+        profile.clear();
+        let ends = self.ends;
         let mut bound = 0;
-        for end in ends {
-            bound = bound.max(self.bound_at(&mut profile, *end));
+        for end in ends.row.as_slice() {
+            if ends.grow(profile, *end, |number, lot| self.is_in_cuts(number, lot)) {
+                bound = bound.max(self.bound_at(profile, end.lct, required[end.lot]));
+            }
         }
         bound
     }
 }
 
 // The new bounds of the lots, by number; 0 past the last lot.
-fn bounds_of(table: Table<'_>, ends: &[End]) -> [u16; MAX_LOTS]
-    requires all { DistinctEnds table.lots.now ends.now }
-    ensures answer { let T = table.entry.lots.now in (i : ℕ) → i < length T → slice_index result i
-        ≡ greatest_end_bound table.entry.capacity T i (end_minutes ends.now) }
+fn bounds_of(table: Table<'_>) -> [u16; MAX_LOTS]
+    ensures answer { let T = table.entry.lots.now in (i : ℕ) → i < length T
+        → slice_index result i ≡ greatest_bound table.entry.capacity T i (length T) }
 {
+    let ends = Ends::of(table);
+    let mut profile = Profile::new(table);
+    let required = ends.requirements(&mut profile);
     let mut bounds = [0; MAX_LOTS];
-    for (number, _) in table.lots.iter().enumerate() {
-        bounds[number] = Candidate { table, number }.bound(ends);
+    for (number, lot) in table.lots.iter().enumerate() {
+        let candidate = Candidate {
+            ends: &ends,
+            number,
+            lot: *lot,
+        };
+        bounds[number] = candidate.bound(&mut profile, &required);
     }
     bounds
 }
@@ -140,10 +128,10 @@ impl Rule for NotFirst {
 
     ghost sound = { λ x. not_first_sound };
 
+    // Not inlined: a pile would keep the profile on its stack once for each level.
+    #[inline(never)]
     fn apply(&self, capacity: u16, lots: &mut [Lot]) -> Result<Verdict, Refusal> {
-        let table = Table::new(capacity, lots)?;
-        let ends = distinct_ends(table);
-        let bounds = bounds_of(table, ends.as_slice());
+        let bounds = bounds_of(Table::new(capacity, lots)?);
         Ok(raise(lots, &bounds))
     }
 }
@@ -168,6 +156,24 @@ mod tests {
         assert_eq!(rt; NotFirst.apply(1, &mut lots), Ok(Verdict::Still));
         assert_eq!(rt; NotFirst.apply(0, &mut lots), Err(Refusal::Unlawful));
         assert_eq!(rt; lots, [Lot::new(0, 5, 3, 1), Lot::new(0, 9, 2, 1)]);
+    }
+
+    #[test]
+    fn each_lot_asks_a_profile_of_its_own_cuts(rt: HostRuntime) {
+        let mut lots = [
+            Lot::new(0, 4, 2, 1),
+            Lot::new(0, 4, 2, 1),
+            Lot::new(0, 9, 1, 1),
+        ];
+        assert_eq!(rt; NotFirst.apply(1, &mut lots), Ok(Verdict::Moved));
+        assert_eq!(rt;
+            lots,
+            [
+                Lot::new(0, 4, 2, 1),
+                Lot::new(0, 4, 2, 1),
+                Lot::new(2, 9, 1, 1)
+            ]
+        );
     }
 
     #[test]

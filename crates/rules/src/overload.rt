@@ -1,12 +1,10 @@
 //! The rule overload: dead where the lots that must all be out by some minute are overfull.
 ghost use Rattle.std.specs.Prelude.{◌≡◌};
-ghost use Rattle.rules.specs.Chosen.{is_overfull as overfull};
-ghost use Rattle.rules.specs.Private.Ends.{end_minutes};
-ghost use Rattle.rules.specs.Overload.{due_lots, some_overfull as overfull_at_some, overload};
+ghost use Rattle.rules.specs.Overload.{ends_of, some_overfull as overfull_at_some, overload};
 ghost use Rattle.rules.specs.Laws.OverloadSound.{overload_sound};
 
-use crate::chosen::{chosen, is_overfull};
-use crate::ends::{End, distinct_ends};
+use crate::ends::Ends;
+use elastic::Profile;
 use lots::{Lot, Refusal, Table};
 use rule::{Rule, Verdict};
 
@@ -15,23 +13,22 @@ use rule::{Rule, Verdict};
 #[derive(Clone, Copy, Default, Debug)]
 pub struct Overload;
 
-// Whether the lots that must be out by a minute are overfull.
-fn overfull_by(table: Table<'_>, minute: u16) -> bool
-    ensures answer { result ≡ overfull table.entry.capacity (due_lots minute table.entry.lots.now) }
+// Whether, for some latest end, the lots that must be out by then are overfull. Those due by a
+// later end have all those due by an earlier one, so one profile grows from end to end.
+fn some_overfull(table: Table<'_>) -> bool
+    ensures answer { let T = table.entry.lots.now in
+        result ≡ overfull_at_some table.entry.capacity T (ends_of T) }
 {
-    let due = chosen(table, |_, lot| lot.lct <= minute);
-    is_overfull(Table {
-        capacity: table.capacity,
-        lots: due.as_slice(),
-    })
-}
-
-// Whether, for some of the ends, the lots that must be out by then are overfull.
-fn some_overfull(table: Table<'_>, ends: &[End]) -> bool
-    ensures answer { let minutes = end_minutes ends.now in
-        result ≡ overfull_at_some table.entry.capacity table.entry.lots.now minutes }
-{
-    ends.iter().any(|end| overfull_by(table, end.lct))
+    let ends = Ends::of(table);
+    let mut profile = Profile::new(table);
+    for end in ends.row.as_slice() {
+        ends.grow(&mut profile, *end, |_, _| true);
+        let (left, _points) = profile.overflow();
+        if left > 0 {
+            return true;
+        }
+    }
+    false
 }
 
 impl Rule for Overload {
@@ -39,10 +36,10 @@ impl Rule for Overload {
 
     ghost sound = { λ x. overload_sound };
 
+    // Not inlined: a pile would keep the profile on its stack once for each level.
+    #[inline(never)]
     fn apply(&self, capacity: u16, lots: &mut [Lot]) -> Result<Verdict, Refusal> {
-        let table = Table::new(capacity, lots)?;
-        let ends = distinct_ends(table);
-        if some_overfull(table, ends.as_slice()) {
+        if some_overfull(Table::new(capacity, lots)?) {
             Ok(Verdict::Dead)
         } else {
             Ok(Verdict::Still)
@@ -81,5 +78,28 @@ mod tests {
                 Lot::new(1, 3, 1, 1)
             ]
         );
+    }
+
+    #[test]
+    fn what_is_due_earlier_counts(rt: HostRuntime) {
+        let mut lots = [Lot::new(0, 3, 3, 1), Lot::new(0, 5, 3, 1)];
+        assert_eq!(rt; Overload.apply(1, &mut lots), Ok(Verdict::Dead));
+        lots[1].p = 2;
+        assert_eq!(rt; Overload.apply(1, &mut lots), Ok(Verdict::Still));
+        assert_eq!(rt; lots, [Lot::new(0, 3, 3, 1), Lot::new(0, 5, 2, 1)]);
+    }
+
+    #[test]
+    fn all_lots_of_one_latest_end_count(rt: HostRuntime) {
+        let mut lots = [
+            Lot::new(0, 6, 2, 1),
+            Lot::new(0, 9, 1, 1),
+            Lot::new(0, 6, 2, 1),
+            Lot::new(0, 9, 1, 1),
+            Lot::new(0, 6, 3, 1),
+        ];
+        assert_eq!(rt; Overload.apply(1, &mut lots), Ok(Verdict::Dead));
+        lots[4].p = 2;
+        assert_eq!(rt; Overload.apply(1, &mut lots), Ok(Verdict::Still));
     }
 }

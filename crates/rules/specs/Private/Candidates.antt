@@ -1,36 +1,34 @@
 -- A lot of a table, of which not-first asks before which others it can start.
-use Rattle.std.specs.Prelude.{ℕ, Bool, List}
-use Rattle.lots.specs.Tables.{lot_at}
+use Rattle.std.specs.Prelude.{ℕ, Bool, if◌then◌else◌, not, ◌&&◌, List, length, ◌==◌, nat_lt}
+use Rattle.lots.specs.Tables.{ect}
 use Rattle.lots.specs.declared.Lot.{Lot}
-use Rattle.rules.specs.NotFirst.{cut}
-use Rattle.rules.specs.Private.EndBounds.{end_bound, greatest_end_bound}
-use Rattle.rules.specs.Private.GrowingCuts.{Marks, MarksBefore}
+use Rattle.lots.specs.declared.table.Table.{Table}
+use Rattle.rules.specs.Chosen.{is_overfull}
+use Rattle.rules.specs.NotFirst.{cut, least_ect, cut_with_stand_in, greatest_bound}
 use Rattle.rules.specs.declared.not_first.Candidate.{Candidate}
 
--- the lots of its table
-abbrev pub lots_of : Candidate → List Lot
-lots_of x = x.table.lots.now
+-- the table that it is a lot of
+abbrev pub table_with : Candidate → Table
+table_with x = x.ends.now.table
 
--- the lot itself
-abbrev pub own_lot : Candidate → Lot
-own_lot x = lot_at (lots_of x) x.number
+-- the lots of that table
+abbrev pub lots_of : Candidate → List Lot
+lots_of x = (table_with x).lots.now
+
+-- the lot y of the number k is another, and cannot be out by the est of x
+abbrev pub is_in_cuts : Candidate → ℕ → Lot → Bool
+is_in_cuts x k y = not (k == x.number) && nat_lt x.lot.est (ect y)
 
 -- its cut up to the minute t
 abbrev pub cut_of : Candidate → ℕ → List Lot
 cut_of x t = cut (lots_of x) x.number t
 
--- just the lots of its cut up to t are marked
-abbrev pub MarksCut : Candidate → ℕ → List Bool → Type 0
-MarksCut x t marks = Marks (lots_of x) x.number t marks
+-- the bound that this cut puts on its est, by whichever lot of the cut has the latest end t
+abbrev pub bound_of_cut : Candidate → ℕ → ℕ
+bound_of_cut x t =
+    if is_overfull (table_with x).capacity (cut_with_stand_in (lots_of x) x.number t)
+    then least_ect (cut_of x t) else 0
 
--- just those of them that must be out before t
-abbrev pub MarksCutBefore : Candidate → ℕ → List Bool → Type 0
-MarksCutBefore x t marks = MarksBefore (lots_of x) x.number t marks
-
--- the bound that the latest end t puts on its est
-abbrev pub bound_at_end : Candidate → ℕ → ℕ
-bound_at_end x t = end_bound x.table.capacity (lots_of x) x.number t
-
--- the greatest of those that the latest ends ts put
-abbrev pub bound_over_ends : Candidate → List ℕ → ℕ
-bound_over_ends x ts = greatest_end_bound x.table.capacity (lots_of x) x.number ts
+-- the greatest that the lots put
+abbrev pub own_bound : Candidate → ℕ
+own_bound x = greatest_bound (table_with x).capacity (lots_of x) x.number (length (lots_of x))

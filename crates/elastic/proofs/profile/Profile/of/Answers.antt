@@ -9,4 +9,4 @@ loop-number-preserved c =
     (c.add.ensures.table ∙ so_far.0, marked_more _ _ _ _ here c.add.ensures.added so_far.1)
 
 pub returns-clause-all : goal.returns-clause-all
-returns-clause-all c = marked_lots-all _ _ (λ k h. c.loop-number.invariant.1 k (omega (arith, h)))
+returns-clause-all c = rw c.loop-number.invariant.0 (marked_lots-all _ _ (λ k h. c.loop-number.invariant.1 k (omega (arith, h))))
