@@ -60,8 +60,8 @@ pub struct Profile<'a> {
     points: Points,
     places: [Places; MAX_LOTS],
     counted: PointCount,
-    // The walk that was asked for last, by how many points it has passed. Those up to `fresh` are
-    // as they would be now; from `reach` on no added lot has a point.
+    // The states of the last walk, by the number of points passed. Those up to `fresh` still hold;
+    // from `reach` on no added lot has a point.
     states: [State; MAX_STATES],
     beside: StandIn,
     fresh: usize,
@@ -159,7 +159,7 @@ impl<'a> Profile<'a> {
         self.table.lots.get(number).map_or(0, |lot| lot.c)
     }
 
-    // How many of the points that the last walk has passed lie by a minute.
+    // How many of the first `fresh` points lie at or before a minute.
     fn passed_by(&self, minute: u16) -> usize
         ensures few { result ≤ self.now.fresh }
         ensures by { reached (minutes_of self.now.points.row) result ≤ minute }
@@ -215,7 +215,7 @@ impl<'a> Profile<'a> {
     }
 
     /// The overflow of the lots that were added, in trays times minutes, and the number of points.
-    /// What is kept of the walk along the points is brought up to date, so the next asks less.
+    /// What was found at each point is kept, so the next call walks only from the first change on.
     pub fn overflow(&mut self) -> (u32, usize)
         ensures table { table_of self.new ≡ table_of self.old }
         ensures added { marks_of self.new ≡ marks_of self.old }
@@ -243,7 +243,7 @@ impl<'a> Profile<'a> {
     }
 
     /// The most trays that the lots that were added require at one minute, if each starts at its
-    /// est. Where they are within the capacity, nothing is left over.
+    /// est.
     pub fn most_required(&self) -> u32
         ensures greatest { IsGreatest (creq (added_lots self.now)) result }
     {

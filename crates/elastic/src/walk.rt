@@ -104,7 +104,7 @@ pub(crate) fn left_over(points: &[Point], capacity: u16) -> u32
     state.left
 }
 
-/// Goes on from the point of one place to that of another, and keeps the state at each.
+/// Goes on from the state after `from` points to that after `to`, and keeps the state after each.
 pub(crate) fn walk_on(
     points: &[Point],
     states: &mut [State],

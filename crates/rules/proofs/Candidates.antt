@@ -11,7 +11,7 @@ use Rattle.elastic.specs.declared.profile.Profile.{Profile}
 use Rattle.rules.specs.Chosen.{chosen_lots, is_overfull}
 use Rattle.rules.specs.NotFirst.{is_in_cut, least_ect, cut_with_stand_in}
 use Rattle.rules.specs.Overload.{ends_of}
-use Rattle.rules.specs.Private.Candidates.{table_with, lots_of, is_in_cuts, cut_of, bound_of_cut}
+use Rattle.rules.specs.Private.Candidates.{own_table, lots_of, is_in_cuts, cut_of, bound_of_cut}
 use Rattle.rules.specs.Private.Ends.{end_at, end_minutes, DistinctEnds}
 use Rattle.rules.specs.declared.ends.End.{End}
 use Rattle.rules.specs.declared.not_first.Candidate.{Candidate}
@@ -21,7 +21,7 @@ use Rattle.rules.proofs.Bounds.{end_bound, greatest_end_bound, greatest_more}
 
 module _ (x : Candidate) where
   abbrev C : ℕ
-  C = (table_with x).capacity
+  C = (own_table x).capacity
 
   abbrev T : List Lot
   T = lots_of x
@@ -45,7 +45,7 @@ module _ (x : Candidate) where
 
   module _ (es : List End) (n : ℕ) (h : n < length es) where
     -- the lots of the ends up to n are its cut up to that end
-    pub cut_held : DistinctEnds T es → (profile : Profile) → table_of profile ≡ table_with x → Holds T (is_in_cuts x) (end_minutes (take (n + 1) es)) profile → added_lots profile ≡ cut_of x (end_at es n).lct
+    pub cut_held : DistinctEnds T es → (profile : Profile) → table_of profile ≡ own_table x → Holds T (is_in_cuts x) (end_minutes (take (n + 1) es)) profile → added_lots profile ≡ cut_of x (end_at es n).lct
     cut_held is profile at = held_lots T es is (is_in_cuts x) (test (end_at es n).lct) n (in_cuts (end_at es n).lct) h profile (ap (λ (t : Table). t.lots.now) at)
 
     -- the greatest bound, one end more, by whether a lot of the cut has it

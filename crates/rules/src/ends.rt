@@ -57,7 +57,7 @@ fn next_of(lots: &[Lot], number: usize) -> usize
     lots.len()
 }
 
-// The next numbers of all lots, by number; 0 past the last lot.
+// The next numbers of all lots, by number.
 fn chain(lots: &[Lot]) -> [usize; MAX_LOTS]
     requires few { length lots.now ≤ max_lots }
     ensures answer { Chained lots.now result }
@@ -126,7 +126,7 @@ impl<'a> Ends<'a> {
     }
 
     /// By the lowest lot of each end: the most trays that the lots due by it require at one minute,
-    /// if each starts at its est; 0 at other numbers.
+    /// if each starts at its est. The profile is cleared, and has all lots afterwards.
     pub(crate) fn requirements(&self, profile: &mut Profile<'_>) -> [u32; MAX_LOTS]
         requires table { table_of profile.old ≡ self.now.table }
         ensures table { table_of profile.new ≡ table_of profile.old }

@@ -35,7 +35,7 @@ struct Candidate<'a> {
 }
 
 impl Candidate<'_> {
-    ghost use Rattle.rules.specs.Private.Candidates.{table_with, is_in_cuts, cut_of, bound_of_cut, own_bound};
+    ghost use Rattle.rules.specs.Private.Candidates.{own_table, is_in_cuts, cut_of, bound_of_cut, own_bound};
 
     // Whether the lot of a number is another, and cannot be out by the est of this one. Such a lot
     // is in the cut up to its latest end, and in those up to later ones.
@@ -58,9 +58,9 @@ impl Candidate<'_> {
     // puts none. The cut requires no more than the lots that are due by then, so where these leave
     // room for its trays, nothing is left over, and the profile is not asked.
     fn bound_at(&self, profile: &mut Profile<'_>, minute: u16, required: u32) -> u16
-        requires table { table_of profile.old ≡ table_with self.now }
+        requires table { table_of profile.old ≡ own_table self.now }
         requires cut { added_lots profile.old ≡ cut_of self.now minute }
-        requires required { let due = due_lots minute (table_with self.now).lots.now in
+        requires required { let due = due_lots minute (own_table self.now).lots.now in
             (t : ℕ) → creq due t ≤ required }
         ensures table { table_of profile.new ≡ table_of profile.old }
         ensures added { marks_of profile.new ≡ marks_of profile.old }
@@ -80,8 +80,8 @@ impl Candidate<'_> {
     // The greatest bound that the latest ends put on its est. The cut up to a later end has all the
     // lots of an earlier one, so the profile grows from end to end.
     fn bound(&self, profile: &mut Profile<'_>, required: &[u32; MAX_LOTS]) -> u16
-        requires table { table_of profile.old ≡ table_with self.now }
-        requires required { Requirements (table_with self.now).lots.now self.now.ends.now.row
+        requires table { table_of profile.old ≡ own_table self.now }
+        requires required { Requirements (own_table self.now).lots.now self.now.ends.now.row
             required.now }
         ensures table { table_of profile.new ≡ table_of profile.old }
         ensures answer { result ≡ own_bound self.now }

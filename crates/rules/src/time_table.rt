@@ -29,7 +29,7 @@ fn fixed_at(lot: Lot, minute: u32) -> u16
 }
 
 // Enters where the fixed parts of a table begin and end: at each minute, the trays of those that
-// begin there and of those that end there. They all lie within the minutes of the answer.
+// begin there and of those that end there. All fixed parts lie within the minutes of the answer.
 fn enter(table: Table, begun: &mut [u16; MINUTES], ended: &mut [u16; END_MINUTES]) -> Range<usize>
     requires begun_blank { begun.old ≡ replicate MINUTES 0 }
     requires ended_blank { ended.old ≡ replicate END_MINUTES 0 }

@@ -119,6 +119,6 @@ pub record HasPlaces (us : List ℕ) (x : Lot) (q : Places) : Type 0 where
 abbrev pub places_at : List Places → ℕ → Places
 places_at qs k = slice_index_or qs k (record { est = 0; ect = 0; lct = 0 })
 
--- so do those of each lot of T at the places of its number
+-- the minutes of each lot of T stand at the places of its number
 abbrev pub HavePlaces : List ℕ → List Lot → List Places → Type 0
 HavePlaces us T qs = (k : ℕ) → k < length T → HasPlaces us (lot_at T k) (places_at qs k)

@@ -9,11 +9,11 @@ use Rattle.elastic.specs.Private.Points.{minutes_of, Profiles}
 use Rattle.elastic.specs.declared.points.Point.{Point}
 use Rattle.elastic.specs.declared.walk.State.{State}
 
--- the trays that can be in use at t where c of C are kept until m
+-- the capacity that is left at t where c of C trays are kept until m
 abbrev pub usable : ℕ → ℕ → ℕ → ℕ → ℕ
 usable C c m t = if nat_lt t m then C - c else C
 
--- ov in the minute before t, counted from minute 0, where U u trays can be in use at u
+-- ov in the minute before t, counted from minute 0, where the capacity at u is U u
 abbrev pub rest : (ℕ → ℕ) → List Lot → ℕ → ℕ
 rest U Ω zero = 0
 rest U Ω (suc t) = (rest U Ω t + creq Ω t) - min (profile.available Ω t) (U t)

@@ -40,7 +40,7 @@ pub record Next (T : List Lot) (n m : ℕ) : Type 0 where
   pub same_end : m < length T → (lot_at T m).lct ≡ (lot_at T n).lct
   pub none_between : NoneBetween T n m
 
--- the next number of each lot's
+-- `next` has, at each lot's number, its next number
 abbrev pub Chained : List Lot → List ℕ → Type 0
 Chained T next = (n : ℕ) → n < length T → Next T n (slice_index_or next n 0)
 
